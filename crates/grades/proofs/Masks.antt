@@ -1,0 +1,62 @@
+-- What the shifts and masks of `src/held.rt` come to, in the words of `HeldSets`.
+-- Assumes nothing.
+use Prim.Native.Nat.{ℕ, zero, suc, _+_, _*_, _/_, _%_, _^_, _<_, max}
+use mathlib.Core.Bool.{Bool, true, false}
+use mathlib.Core.List.{List, [], _∷_}
+use mathlib.Core.Path.{_≡_, refl, sym, ap, ap₂, _∙_, subst}
+use native.Mathlib.Nat.{pow-suc, one-mul, max-zero, mod-lt, mod-eq-of-lt, le-of-suc-le-suc, not-suc-le-zero, le-trans}
+use native.Mathlib.Omega.{arith}
+use lib.Bits.{bitAnd, bitOr, and-mask, or-step, or-zero-r}
+use lib.Dec.{eqb}
+use lib.ListN.{length, getD, take}
+use lib.Pow.{pow-pos, pow-lt, pow-mono}
+use Rattle.grades.specs.HeldSets.{held, pickSet, add, calleeSet}
+use Rattle.grades.specs.HeldLaws.{none-held, from-halves, add-zero-half, add-zero-odd, add-suc-half, add-suc-odd, add-free, bit-before}
+
+-- the lowest bit of a shifted set
+pub shifted-bit : (H j : ℕ) → eqb (bitAnd (H / 2 ^ j) 1) 1 ≡ held H j
+unfolding held
+shifted-bit H j = ap (λ (n : ℕ). eqb n 1) (and-mask (H / 2 ^ j) 1)
+
+-- a single bit, shifted within its width w
+pub one-bit : (w j : ℕ) → j < w → (1 * 2 ^ j) % 2 ^ w ≡ 2 ^ j
+one-bit w j h = ap (λ (n : ℕ). n % 2 ^ w) (one-mul (2 ^ j)) ∙ mod-eq-of-lt (pow-lt h)
+
+-- a set with a bit put in is the set with that name added
+pub or-bit : (H l : ℕ) → bitOr H (2 ^ l) ≡ add H l
+or-bit H zero =
+    let low : max (H % 2) 1 ≡ 1 = omega (arith, mod-lt H (pow-pos 1)) in
+    or-step H 1 ∙ ap₂ (λ (m n : ℕ). m * 2 + n) (or-zero-r (H / 2)) low
+    ∙ from-halves (H / 2 * 2 + 1) (add H 0) (omega (arith, add-zero-half H)) (omega (arith, add-zero-odd H))
+or-bit H (suc l) =
+    let e : 2 ^ suc l ≡ 2 ^ l * 2 = pow-suc 2 l in
+    let half : 2 ^ suc l / 2 ≡ 2 ^ l = omega arith in
+    let even : 2 ^ suc l % 2 ≡ 0 = omega arith in
+    or-step H (2 ^ suc l)
+    ∙ ap₂ (λ (m n : ℕ). bitOr (H / 2) m * 2 + max (H % 2) n) half even
+    ∙ ap₂ (λ (m n : ℕ). m * 2 + n) (or-bit (H / 2) l) (max-zero (H % 2))
+    ∙ from-halves (add (H / 2) l * 2 + H % 2) (add H (suc l)) (omega (arith, add-suc-half H l)) (omega (arith, add-suc-odd H l))
+
+-- one name more: the callee's set has its bit where the caller holds that name
+pub callee-more : (H : ℕ) (names : List ℕ) (j d : ℕ) → j < length names
+    → calleeSet H (take (suc j) names) ≡ pickSet (held H (getD names j d)) (add (calleeSet H (take j names)) j) (calleeSet H (take j names))
+unfolding calleeSet
+callee-more H [] j d h = absurd (not-suc-le-zero h)
+callee-more H (t ∷ names) zero d h = first (held H t)
+  where
+    first : (b : Bool) → pickSet b 1 0 + 0 * 2 ≡ pickSet b (add 0 0) 0
+    first true = sym (add-free 0 0 (none-held 0))
+    first false = refl
+callee-more H (t ∷ names) (suc j) d h =
+    ap (λ (n : ℕ). pickSet (held H t) 1 0 + n * 2) (callee-more H names j d (le-of-suc-le-suc h))
+    ∙ next (held H t) (held H (getD names j d)) (calleeSet H (take j names))
+  where
+    bit-set : (b : Bool) (n : ℕ) → pickSet b 1 0 + add n j * 2 ≡ add (pickSet b 1 0 + n * 2) (suc j)
+    bit-set b n =
+        from-halves (pickSet b 1 0 + add n j * 2) (add (pickSet b 1 0 + n * 2) (suc j))
+        (bit-before b (add n j) .0 ∙ ap (λ (m : ℕ). add m j) (sym (bit-before b n .0)) ∙ sym (add-suc-half (pickSet b 1 0 + n * 2) j))
+        (bit-before b (add n j) .1 ∙ sym (bit-before b n .1) ∙ sym (add-suc-odd (pickSet b 1 0 + n * 2) j))
+
+    next : (b a : Bool) (n : ℕ) → pickSet b 1 0 + pickSet a (add n j) n * 2 ≡ pickSet a (add (pickSet b 1 0 + n * 2) (suc j)) (pickSet b 1 0 + n * 2)
+    next b true n = bit-set b n
+    next b false n = refl
