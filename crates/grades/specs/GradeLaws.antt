@@ -216,7 +216,7 @@ pub join-grows : (a b a′ b′ : ℕ) → a ≤ a′ → b ≤ b′ → join a 
 unfolding join cap
 join-grows a b a′ b′ h g = omega arith
 
-join-larger : (a b : ℕ) → a ≤ b → join a b ≡ cap b
+pub join-larger : (a b : ℕ) → a ≤ b → join a b ≡ cap b
 unfolding join cap
 join-larger a b h = omega arith
 
