@@ -1,0 +1,43 @@
+// The lowest grades of a program's methods, and the first closed constraint that they break.
+mod constraints;
+mod node;
+mod room;
+mod rounds;
+
+use constraints::first_broken;
+use room::has_room;
+use rounds::lowest_of;
+use rounds::starts_of;
+ghost use mathlib.Core.Path.{_≡_};
+ghost use Rattle.solver.specs.Solved.{solved};
+pub use constraints::Verdict;
+
+// What checked tables come to. The grades are the lowest, also where they break a constraint.
+pub struct Solved {
+    pub verdict: Verdict,
+    pub rounds: usize,
+    pub grades: [u8; 1024],
+}
+
+// The lowest grades of the program that checked tables stand for. Tables that the engine has no room for, as no text gives them,
+// come to nothing.
+pub fn solve(tables: &[u8]) -> Solved
+    ensures { λ r. ⌜ r ≡ solved (now (tables .entry)) ⌝ }
+{
+    if !has_room(tables) {
+        return Solved {
+            verdict: Verdict::NoRoom,
+            rounds: 0,
+            grades: [0u8; 1024],
+        };
+    }
+    let starts = starts_of(tables);
+    let lowest = lowest_of(tables, &starts);
+    let grades = lowest.grades;
+    let verdict = first_broken(tables, &grades, &starts);
+    Solved {
+        verdict,
+        rounds: lowest.rounds,
+        grades,
+    }
+}

@@ -1,0 +1,216 @@
+// The grade of a node under a held set (document 01, "What each node means"), by recursion on the node number, which falls to each
+// child. The children are worked out alike, an absent one as const, and put together once.
+use grades::access::access;
+use grades::arithmetic::assert_atomic;
+use grades::arithmetic::closure;
+use grades::arithmetic::compose;
+use grades::arithmetic::join;
+use grades::arithmetic::lock_taken;
+use grades::held::callee_set;
+use grades::held::holds;
+use grades::held::with_name;
+ghost use mathlib.Core.Path.{_≡_};
+ghost use mathlib.Core.List.{_∷_, []};
+ghost use Prim.Native.Nat.{_+_, _≤_, _<_, _^_, min};
+ghost use Rattle.frames.specs.Ranges.{childrenListed};
+ghost use Rattle.meaning.specs.Meaning.{opOf, childSet, fieldAt, methodAt, fieldAccess, calleeEntry, meaning};
+ghost use Rattle.solver.specs.Engine.{programIn, nodeIn, nodesFrom, tablesIn, noChild, childAt, ownGrade, combined, firstNodeFrame, lastFrame, LocksFit};
+ghost use Rattle.solver.specs.Parts.{PartsOf};
+
+// A number that is known to be a byte.
+fn byte(x: usize) -> u8
+    requires { ⌜ x < 256 ⌝ }
+    ensures { λ r. ⌜ r ≡ x ⌝ }
+{
+    x as u8
+}
+
+// Entry h of method m, of flat tables; 0 past them.
+pub(crate) fn entry_at(grades: &[u8], m: usize, h: usize) -> u8
+    requires { ⌜ m < 256 ⌝ }
+    ensures { λ r. ⌜ r ≡ tablesIn (now (grades .entry)) m h ⌝ }
+{
+    if 16 <= h {
+        return 0;
+    }
+    let at = 16 * m + h;
+    if grades.len() <= at {
+        return 0;
+    }
+    grades[at]
+}
+
+// The children X, Y and Z of the node in frame j; 65536, which no child is, for one that its op does not list.
+fn child_x(tables: &[u8], j: usize, listed: usize) -> usize
+    requires { ⌜ listed ≡ childrenListed (nodeIn (now tables) j .op) ⌝ }
+    ensures { λ r. ⌜ r ≡ childAt (nodeIn (now (tables .entry)) j) 0 ⌝ }
+{
+    if 0 < listed {
+        frames::child_x(tables, j)
+    } else {
+        65536
+    }
+}
+
+fn child_y(tables: &[u8], j: usize, listed: usize) -> usize
+    requires { ⌜ listed ≡ childrenListed (nodeIn (now tables) j .op) ⌝ }
+    ensures { λ r. ⌜ r ≡ childAt (nodeIn (now (tables .entry)) j) 1 ⌝ }
+{
+    if 1 < listed {
+        frames::child_y(tables, j)
+    } else {
+        65536
+    }
+}
+
+fn child_z(tables: &[u8], j: usize, listed: usize) -> usize
+    requires { ⌜ listed ≡ childrenListed (nodeIn (now tables) j .op) ⌝ }
+    ensures { λ r. ⌜ r ≡ childAt (nodeIn (now (tables .entry)) j) 2 ⌝ }
+{
+    if 2 < listed {
+        frames::child_z(tables, j)
+    } else {
+        65536
+    }
+}
+
+// The set that a node's children are graded under: a synchronised node adds its lock.
+fn set_under(op: usize, name: u8, set: u8) -> u8
+    requires { ⌜ (op ≡ 6 → name < 8) ⌝ }
+    ensures { λ r. ⌜ r ≡ childSet (opOf op) (name ∷ []) set ⌝ }
+{
+    if op == 6 { with_name(set, name) } else { set }
+}
+
+// What a node comes to, of its children's grades and its own part.
+fn combined(op: usize, newly: bool, x: u8, y: u8, z: u8, own: u8) -> u8
+    ensures { λ r. ⌜ r ≡ combined (opOf op) newly x y z own ⌝ }
+{
+    match op {
+        4 => compose(x, join(y, z)),
+        5 => compose(x, closure(compose(y, x))),
+        6 => if newly { lock_taken(x) } else { x },
+        7 => assert_atomic(x),
+        _ => if op < 10 {
+            compose(compose(x, y), own)
+        } else {
+            4
+        },
+    }
+}
+
+// The access of a read or a write. A field that the program lacks permits nothing.
+fn field_grade(tables: &[u8], j: usize, write: bool, set: u8) -> u8
+    ensures { λ r. ⌜ r ≡ fieldAccess (fieldAt (programIn (now (tables .entry))) (nodeIn (now (tables .entry)) j .U)) write (nodeIn (now (tables .entry)) j .names) set ⌝ }
+{
+    let u = frames::used(tables, j);
+    if frames::fields(tables) <= u {
+        return 4;
+    }
+    let held = holds(set, byte(frames::name(tables, j, 0)));
+    access(
+        byte(frames::width(tables, u)),
+        byte(frames::guard(tables, u)),
+        write,
+        held,
+    )
+}
+
+// How many of a node's names the callee takes: as many as it has, of the four. A method that the program lacks has none.
+pub(crate) fn names_taken(tables: &[u8], u: usize) -> usize
+    ensures { λ r. ⌜ r ≡ min (methodAt (programIn (now (tables .entry))) u .k) 4 ⌝ }
+{
+    if frames::methods(tables) <= u {
+        return 0;
+    }
+    let k = frames::k(tables, u);
+    if k < 4 { k } else { 4 }
+}
+
+// The callee's entry.
+fn callee_grade<'a>(tables: &'a [u8], grades: &'a [u8], j: usize, set: u8) -> u8
+    ensures { λ r. ⌜ r ≡ calleeEntry (methodAt (programIn (now (tables .entry))) (nodeIn (now (tables .entry)) j .U) .k) (tablesIn (now (grades .entry)) (nodeIn (now (tables .entry)) j .U)) (nodeIn (now (tables .entry)) j .names) set ⌝ }
+{
+    let u = frames::used(tables, j);
+    let k = names_taken(tables, u);
+    let names = [
+        byte(frames::name(tables, j, 0)),
+        byte(frames::name(tables, j, 1)),
+        byte(frames::name(tables, j, 2)),
+        byte(frames::name(tables, j, 3)),
+    ];
+    let inside = callee_set(set, &names[..k]);
+    entry_at(grades, u, inside as usize)
+}
+
+// A node's own part: an access, the callee's entry, a fork's 2; const where its op has none.
+fn own_grade<'a>(tables: &'a [u8], grades: &'a [u8], j: usize, op: usize, set: u8) -> u8
+    ensures { λ r. ⌜ r ≡ ownGrade (programIn (now (tables .entry))) (tablesIn (now (grades .entry))) (opOf op) (nodeIn (now (tables .entry)) j) set ⌝ }
+{
+    match op {
+        1 => field_grade(tables, j, false, set),
+        2 => field_grade(tables, j, true, set),
+        8 => callee_grade(tables, grades, j, set),
+        9 => 2,
+        _ => 0,
+    }
+}
+
+// What a node is put together from: its op, the set that its children are graded under and whether that lock is newly taken, the
+// children, and its own part.
+struct Parts {
+    op: usize,
+    newly: bool,
+    under: u8,
+    x: usize,
+    y: usize,
+    z: usize,
+    own: u8,
+}
+
+fn parts_of<'a>(tables: &'a [u8], grades: &'a [u8], j: usize, set: u8) -> Parts
+    requires { ⌜ LocksFit (now tables) ⌝ }
+    requires { ⌜ (firstNodeFrame (now tables) ≤ j) × (j < lastFrame (now tables)) ⌝ }
+    ensures { λ r. ⌜ PartsOf (programIn (now (tables .entry))) (tablesIn (now (grades .entry))) (nodeIn (now (tables .entry)) j) set r ⌝ }
+{
+    let op = frames::op(tables, j);
+    let name = byte(frames::name(tables, j, 0));
+    let listed = frames::children_listed(op);
+    Parts {
+        op,
+        newly: !holds(set, name),
+        under: set_under(op, name, set),
+        x: child_x(tables, j, listed),
+        y: child_y(tables, j, listed),
+        z: child_z(tables, j, listed),
+        own: own_grade(tables, grades, j, op, set),
+    }
+}
+
+// The grade of node n of the method whose first node stands in frame `first`.
+pub(crate) fn node_grade<'a>(
+    tables: &'a [u8],
+    grades: &'a [u8],
+    first: usize,
+    n: usize,
+    set: u8,
+) -> u8
+    requires { ⌜ LocksFit (now tables) ⌝ }
+    requires { ⌜ (firstNodeFrame (now tables) ≤ first) × (first + n < lastFrame (now tables)) × (first < 2 ^ 32) × (n < 65536) ⌝ }
+    ensures { λ r. ⌜ r ≡ meaning (programIn (now (tables .entry))) (tablesIn (now (grades .entry))) (nodesFrom (now (tables .entry)) first) n set ⌝ }
+{
+    let node = parts_of(tables, grades, first + n, set);
+    let mut a = 0;
+    if node.x < n {
+        a = node_grade(tables, grades, first, node.x, node.under);
+    }
+    let mut b = 0;
+    if node.y < n {
+        b = node_grade(tables, grades, first, node.y, node.under);
+    }
+    let mut c = 0;
+    if node.z < n {
+        c = node_grade(tables, grades, first, node.z, node.under);
+    }
+    combined(node.op, node.newly, a, b, c, node.own)
+}
