@@ -1,0 +1,97 @@
+// The one call: grade a text into a lent answer.
+use frames::Outcome;
+ghost use mathlib.Core.Path.{_≡_};
+ghost use mathlib.Core.Bool.{true};
+ghost use lib.ListN.{length};
+ghost use Rattle.solver.specs.Room.{hasRoom};
+ghost use Rattle.checker.specs.Grading.{verdictOf, answerOf};
+ghost use Rattle.checker.specs.Steps.{solvedVerdict, solvedBytes};
+
+// What a text comes to. Refusals 3 to 6 give their line, from 1.
+pub enum Verdict {
+    Accepted {
+        methods: usize,
+        rounds: usize,
+    },
+    WrongLength,
+    Overlong,
+    Malformed(usize),
+    Misplaced(usize),
+    OutOfRange(usize),
+    Unlinked(usize),
+    Broken {
+        method: usize,
+        kind: usize,
+        node: usize,
+        set: usize,
+    },
+}
+
+// The answer's bytes, from the lowest tables.
+fn fill(answer: &mut [u8], grades: &[u8])
+    requires { ⌜ (length (now answer) ≡ 1024) × (length (now grades) ≡ 1024) ⌝ }
+    ensures { λ _. ⌜ now (answer .exit) ≡ now (grades .entry) ⌝ }
+{
+    let mut i = 0;
+    while i < 1024 {
+        answer[i] = grades[i];
+        i = i + 1;
+    }
+}
+
+// The verdict over tables that were read, and the answer. No text gives tables that the engine has no room for.
+fn solved(tables: &[u8], answer: &mut [u8]) -> Verdict
+    requires { ⌜ (length (now answer) ≡ 1024) × (hasRoom (now tables) ≡ true) ⌝ }
+    ensures { λ r. ⌜ r ≡ solvedVerdict (now (tables .entry)) ⌝ }
+    ensures { λ _. ⌜ now (answer .exit) ≡ solvedBytes (now (tables .entry)) (now (answer .entry)) ⌝ }
+{
+    let solution = solver::solve(tables);
+    let verdict = solution.verdict;
+    match verdict {
+        solver::Verdict::Met => {
+            let grades = solution.grades;
+            fill(answer, &grades);
+            Verdict::Accepted {
+                methods: frames::methods(tables),
+                rounds: solution.rounds,
+            }
+        }
+        solver::Verdict::Broken {
+            method,
+            kind,
+            node,
+            set,
+        } => Verdict::Broken {
+            method,
+            kind,
+            node,
+            set,
+        },
+        solver::Verdict::NoRoom => Verdict::Overlong,
+    }
+}
+
+// Grades a text. The answer has 1,024 bytes, entry h of method m at 16m + h and every other byte 0, if the text is accepted; a refusal
+// leaves it as it was.
+pub fn grade(text: &[u8], answer: &mut [u8]) -> Verdict
+    ensures { λ r. ⌜ r ≡ verdictOf (now (text .entry)) (length (now (answer .entry))) ⌝ }
+    ensures { λ _. ⌜ now (answer .exit) ≡ answerOf (now (text .entry)) (now (answer .entry)) ⌝ }
+{
+    if answer.len() != 1024 {
+        return Verdict::WrongLength;
+    }
+    let checked = frames::read(text);
+    let outcome = checked.outcome;
+    match outcome {
+        Outcome::Whole => {
+            let tables = checked.tables;
+            let bytes = tables.bytes;
+            solved(&bytes, answer)
+        }
+        Outcome::Overlong => Verdict::Overlong,
+        Outcome::Malformed(line) => Verdict::Malformed(line),
+        Outcome::Misplaced(line) => Verdict::Misplaced(line),
+        Outcome::OutOfRange(line) => Verdict::OutOfRange(line),
+        Outcome::Unlinked(line) => Verdict::Unlinked(line),
+    }
+}
