@@ -5,6 +5,10 @@ use native.Mathlib.Omega.{arith}
 use borrow.Author.Needs.{needs}
 use Rattle.vectors.proofs.main.Statement.{statement}
 use Rattle.vectors.proofs.main.Tie as tie
+use Rattle.vectors.proofs.main.Reads as reads
+use Rattle.vectors.proofs.main.Lts as lts
+use Rattle.os.proofs.arg_count.Reads as arg-count-reads
+use Rattle.vectors.proofs.grade_argument.Reads as grade-argument-reads
 
 abbrev Inv-loop : tie.InvT-loop
 Inv-loop count i₀ i = Unit {0}
@@ -18,8 +22,8 @@ arg-count-requires c κs = search needs
 loop-holds : tie.Need-loop-holds Inv-loop μ-loop
 loop-holds c = tt
 
-read-argument-requires : tie.Need-read-argument-requires Inv-loop μ-loop
-read-argument-requires c κs = search needs
+grade-argument-requires : tie.Need-grade-argument-requires Inv-loop μ-loop
+grade-argument-requires c κs = search needs
 
 add-i : tie.Need-add-i Inv-loop μ-loop
 add-i c = omega arith
@@ -41,7 +45,7 @@ main-spec =
     μ-loop
     arg-count-requires
     loop-holds
-    read-argument-requires
+    grade-argument-requires
     add-i
     loop-less
     loop-again

@@ -1,0 +1,18 @@
+// The grading program: a text on standard input, its session's frames on standard output, and nothing else there.
+use libc::STDIN_FILENO;
+use libc::STDOUT_FILENO;
+
+fn print(page: &[u8], count: usize) {
+    if count <= page.len() {
+        io::write_all(STDOUT_FILENO, &page[..count]);
+    }
+}
+
+// Of a longer input the first 32,769 bytes are enough: a text of so many is refused for its length alone. No session has over 2,505.
+fn main() {
+    let mut text = [0u8; 32769];
+    let n = io::read_full(STDIN_FILENO, &mut text);
+    let mut page = [0u8; 2505];
+    let count = session::session(&text[..n], &mut page);
+    print(&page, count);
+}

@@ -1,0 +1,53 @@
+// The session: the bytes that the grading program prints for a text (document 01, "One whole session").
+mod frames_of;
+mod writing;
+
+use checker::Verdict;
+use frames_of::put_accepted;
+use frames_of::put_refusal;
+use writing::copy;
+ghost use mathlib.Core.Path.{_≡_};
+ghost use Prim.Native.Nat.{_≤_};
+ghost use lib.ListN.{length};
+ghost use Rattle.session.specs.Page.{putAt, printed};
+ghost use Rattle.session.specs.Session.{sessionOf};
+
+// The session at the front of a page that has room for the longest.
+fn print(text: &[u8], page: &mut [u8]) -> usize
+    requires { ⌜ length (now page) ≡ 2505 ⌝ }
+    ensures { λ r. ⌜ (r ≡ length (sessionOf (now (text .entry)))) × (r ≤ 2505) ⌝ }
+    ensures { λ _. ⌜ now (page .exit) ≡ putAt (now (page .entry)) 0 (sessionOf (now (text .entry))) ⌝ }
+{
+    let mut answer = [0u8; 1024];
+    let verdict = checker::grade(text, &mut answer);
+    match verdict {
+        Verdict::Accepted { methods, rounds } => put_accepted(text, &answer, methods, rounds, page),
+        Verdict::WrongLength => put_refusal(1, 0, 0, 0, 0, 0, page),
+        Verdict::Overlong => put_refusal(2, 0, 0, 0, 0, 0, page),
+        Verdict::Malformed(line) => put_refusal(3, line, 0, 0, 0, 0, page),
+        Verdict::Misplaced(line) => put_refusal(4, line, 0, 0, 0, 0, page),
+        Verdict::OutOfRange(line) => put_refusal(5, line, 0, 0, 0, 0, page),
+        Verdict::Unlinked(line) => put_refusal(6, line, 0, 0, 0, 0, page),
+        Verdict::Broken {
+            method,
+            kind,
+            node,
+            set,
+        } => put_refusal(7, 0, method, kind, node, set, page),
+    }
+}
+
+// What is printed for a text, at the front of the lent buffer, and how many bytes that is. Where the buffer is too short it is left as it
+// was, and the count says how long it must be.
+pub fn session(text: &[u8], out: &mut [u8]) -> usize
+    ensures { λ r. ⌜ r ≡ length (sessionOf (now (text .entry))) ⌝ }
+    ensures { λ _. ⌜ now (out .exit) ≡ printed (sessionOf (now (text .entry))) (now (out .entry)) ⌝ }
+{
+    let mut page = [0u8; 2505];
+    let n = print(text, &mut page);
+    if out.len() < n {
+        return n;
+    }
+    copy(&page, n, out);
+    n
+}
