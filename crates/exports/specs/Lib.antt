@@ -1,0 +1,3 @@
+-- The record that a call from another language gets.
+pub mod Record
+pub mod RecordLaws

@@ -1,0 +1,37 @@
+-- The record of a call from another language: document 01's numbers in eleven bytes, two-byte numbers high byte first.
+-- Assumes nothing.
+use Prim.Native.Nat.{ℕ, _/_, _%_}
+use mathlib.Core.Bool.{Bool, true, false, cond}
+use mathlib.Core.List.{List, [], _∷_}
+use lib.Dec.{eqb}
+use lib.ListN.{length}
+use Rattle.checker.specs.Grading.{Numbers, numbersOf, verdictOf, answerOf}
+
+abbrev pub recordLength : ℕ
+recordLength = 11
+
+abbrev pub recordOf : Numbers → List ℕ
+recordOf n =
+    n .number
+    ∷ n .line / 256 % 256
+    ∷ n .line % 256
+    ∷ n .method % 256
+    ∷ n .kind % 256
+    ∷ n .node / 256 % 256
+    ∷ n .node % 256
+    ∷ n .set % 256
+    ∷ n .methods % 256
+    ∷ n .rounds / 256 % 256
+    ∷ n .rounds % 256
+    ∷ []
+
+-- the result: the refusal's number, or 255 for a record of another length
+unfoldable pub returned : (text : List ℕ) (answer page : ℕ) → ℕ
+returned text answer page = cond (eqb page recordLength) (numbersOf (verdictOf text answer) .number) 255
+
+-- the answer and the record as they are left: a record of another length leaves both
+unfoldable pub answered : (text old : List ℕ) (page : ℕ) → List ℕ
+answered text old page = cond (eqb page recordLength) (answerOf text old) old
+
+unfoldable pub recorded : (text : List ℕ) (answer : ℕ) (old : List ℕ) → List ℕ
+recorded text answer old = cond (eqb (length old) recordLength) (recordOf (numbersOf (verdictOf text answer))) old

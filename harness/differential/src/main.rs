@@ -1,0 +1,70 @@
+//! Runs the vectors, the random texts and the laws, and fails on any difference.
+//!
+//! `differential [TEXTS [SEED]]`
+
+use differential::graders::{self, Grader};
+use differential::{laws, random, vectors};
+use std::process::ExitCode;
+
+const TEXTS: usize = 120_000;
+const SEED: u64 = 20_071_105;
+const LAW_PROGRAMS: usize = 3_000;
+
+fn main() -> ExitCode {
+    let mut arguments = std::env::args().skip(1).map(|argument| argument.parse::<u64>().expect("a number"));
+    let texts = arguments.next().map_or(TEXTS, |texts| texts as usize);
+    let seed = arguments.next().unwrap_or(SEED);
+    let graders = graders::all();
+    let names: Vec<_> = graders.iter().map(|grader| grader.name()).collect();
+    println!("graders: {}", names.join(", "));
+
+    let passed = [run_vectors(&graders), run_random(seed, texts, &graders), run_laws(seed, &graders)];
+    match passed.iter().all(|&passed| passed) {
+        true => ExitCode::SUCCESS,
+        false => ExitCode::FAILURE,
+    }
+}
+
+fn run_vectors(graders: &[Box<dyn Grader>]) -> bool {
+    let Some(folder) = vectors::folder() else {
+        println!("vectors: skipped, there are none in the repository or beside it");
+        return true;
+    };
+    match vectors::run(&folder, graders) {
+        Ok((count, differences)) => {
+            println!("vectors: {count} texts, {} differences", differences.len());
+            differences.iter().for_each(|difference| println!("{difference}"));
+            differences.is_empty()
+        }
+        Err(error) => {
+            println!("vectors: {error}");
+            false
+        }
+    }
+}
+
+fn run_random(seed: u64, count: usize, graders: &[Box<dyn Grader>]) -> bool {
+    match random::run(seed, count, graders) {
+        Ok(tally) => {
+            println!("random texts: {count} from seed {seed}, no difference; reached:\n{tally}");
+            tally.is_enough() || count < TEXTS
+        }
+        Err(failure) => {
+            println!("random texts: a difference\n{failure}");
+            false
+        }
+    }
+}
+
+fn run_laws(seed: u64, graders: &[Box<dyn Grader>]) -> bool {
+    match laws::run(seed, LAW_PROGRAMS, graders) {
+        Ok(tried) => {
+            println!("laws: hold on\n{tried}");
+            true
+        }
+        Err(failure) => {
+            println!("laws: {failure}");
+            false
+        }
+    }
+}

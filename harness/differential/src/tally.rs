@@ -1,0 +1,137 @@
+//! Counts what the random texts have reached, so that a run that reaches too little fails.
+
+use std::fmt;
+use texts::program::{op, Method, Node, Program, NO_NAME};
+use verdict::{Kind, Refusal, Verdict};
+
+/// A thing to be reached, with how often it must be and how often it was.
+struct Line {
+    what: &'static str,
+    wanted: usize,
+    reached: usize,
+}
+
+/// The things to be reached, in the order of this table.
+pub struct Tally {
+    lines: Vec<Line>,
+    most_rounds: u16,
+    longest: usize,
+}
+
+const WANTED: [(&str, usize); 21] = [
+    ("accepted", 10_000),
+    ("refusal 1", 1_000),
+    ("refusal 2", 100),
+    ("refusal 3", 500),
+    ("refusal 4", 500),
+    ("refusal 5", 500),
+    ("refusal 6", 500),
+    ("refusal 7, kind 1", 500),
+    ("refusal 7, kind 2", 500),
+    ("refusal 7, kind 3", 500),
+    ("refusal 7, held set not 0", 500),
+    ("accepted, 3 or more rounds", 5_000),
+    ("accepted, 10 or more rounds", 500),
+    ("accepted, declared methods", 3_000),
+    ("accepted, call with FF", 3_000),
+    ("accepted, call with two names for one lock", 3_000),
+    ("accepted, synchronised", 3_000),
+    ("accepted, loop", 3_000),
+    ("accepted, choice", 3_000),
+    ("accepted, assert", 3_000),
+    ("accepted, fork", 3_000),
+];
+
+impl Default for Tally {
+    fn default() -> Tally {
+        let lines = WANTED.iter().map(|&(what, wanted)| Line { what, wanted, reached: 0 });
+        Tally { lines: lines.collect(), most_rounds: 0, longest: 0 }
+    }
+}
+
+impl Tally {
+    fn count(&mut self, what: &str) {
+        self.count_if(what, true);
+    }
+
+    fn count_if(&mut self, what: &str, reached: bool) {
+        let line = self.lines.iter_mut().find(|line| line.what == what).expect("a line of the table");
+        line.reached += usize::from(reached);
+    }
+
+    /// Takes in the oracle's verdict on a text.
+    pub fn take(&mut self, text: &[u8], verdict: Verdict) {
+        // An answer of wrong length has been tried with every text.
+        self.count("refusal 1");
+        self.longest = self.longest.max(text.len());
+        match verdict {
+            Verdict::Accepted(accepted) => {
+                self.count("accepted");
+                self.most_rounds = self.most_rounds.max(accepted.rounds);
+                self.count_if("accepted, 3 or more rounds", accepted.rounds >= 3);
+                self.count_if("accepted, 10 or more rounds", accepted.rounds >= 10);
+                self.take_program(&Program::of_text(text).expect("an accepted text is a program"));
+            }
+            Verdict::Refused(refusal) => self.take_refusal(refusal),
+        }
+    }
+
+    fn take_refusal(&mut self, refusal: Refusal) {
+        let what = match refusal {
+            Refusal::AnswerLength => return,
+            Refusal::TextTooLong => "refusal 2",
+            Refusal::Digits { .. } => "refusal 3",
+            Refusal::Frame { .. } => "refusal 4",
+            Refusal::Value { .. } => "refusal 5",
+            Refusal::Naming { .. } => "refusal 6",
+            Refusal::Broken(broken) => {
+                self.count_if("refusal 7, held set not 0", broken.held != 0);
+                match broken.kind {
+                    Kind::Declared => "refusal 7, kind 1",
+                    Kind::Main => "refusal 7, kind 2",
+                    Kind::Fork { .. } => "refusal 7, kind 3",
+                }
+            }
+        };
+        self.count(what);
+    }
+
+    fn take_program(&mut self, program: &Program) {
+        let methods = &program.methods;
+        let has = |found: &dyn Fn(&Node) -> bool| methods.iter().flat_map(|method| &method.nodes).any(found);
+        let has_op = |op: u8| has(&|node| node.op == op);
+        let calls = |found: &dyn Fn(&[u8]) -> bool| {
+            has(&|node| node.op == op::CALL && found(&node.t[..usize::from(methods[usize::from(node.u)].k)]))
+        };
+        let is_declared = |method: &Method| method.declared.is_some();
+        self.count_if("accepted, declared methods", methods.iter().any(is_declared));
+        self.count_if("accepted, call with FF", calls(&|locks| locks.contains(&NO_NAME)));
+        self.count_if("accepted, call with two names for one lock", calls(&has_alias));
+        self.count_if("accepted, synchronised", has_op(op::SYNCHRONISED));
+        self.count_if("accepted, loop", has_op(op::LOOP));
+        self.count_if("accepted, choice", has_op(op::CHOICE));
+        self.count_if("accepted, assert", has_op(op::ASSERT));
+        self.count_if("accepted, fork", has_op(op::FORK));
+    }
+
+    /// Has each thing been reached often enough?
+    pub fn is_enough(&self) -> bool {
+        self.lines.iter().all(|line| line.reached >= line.wanted)
+    }
+}
+
+fn has_alias(locks: &[u8]) -> bool {
+    let named = |at: usize| locks[at] != NO_NAME && locks[..at].contains(&locks[at]);
+    (0..locks.len()).any(named)
+}
+
+impl fmt::Display for Tally {
+    fn fmt(&self, out: &mut fmt::Formatter) -> fmt::Result {
+        for Line { what, wanted, reached } in &self.lines {
+            let note = if reached < wanted { "  TOO FEW" } else { "" };
+            writeln!(out, "  {what:<44} {reached:>7}  (wanted {wanted}){note}")?;
+        }
+        writeln!(out, "  {:<44} {:>7}", "most rounds", self.most_rounds)?;
+        write!(out, "  {:<44} {:>7}", "longest text", self.longest)
+    }
+}

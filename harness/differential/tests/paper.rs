@@ -1,0 +1,131 @@
+//! The paper's own cases, by every grader there is: P5 to P8 and P10 to P12 as texts, and each limit.
+
+use differential::graders::{self, Grader};
+use texts::limits;
+use texts::program::{op, Field, Method, Node, Program, NO_NAME};
+use verdict::{Accepted, Refusal, Verdict, ANSWER_LEN, LONGEST_TEXT, RECORD_LEN};
+
+/// Every grader's verdict on a text, which must be the same, with the answer.
+fn graded(text: &[u8]) -> (Verdict, [u8; ANSWER_LEN]) {
+    let by = |grader: &dyn Grader| {
+        let (mut answer, mut record) = ([0; ANSWER_LEN], [0; RECORD_LEN]);
+        grader.grade(text, &mut answer, &mut record);
+        (Verdict::from_record(&record).expect("a verdict's record"), answer)
+    };
+    let all: Vec<_> = graders::all().iter().map(|grader| by(grader.as_ref())).collect();
+    assert!(all.iter().all(|one| *one == all[0]), "the graders differ");
+    all[0]
+}
+
+fn verdict(text: &[u8]) -> Verdict {
+    graded(text).0
+}
+
+fn is_accepted(program: &Program) -> bool {
+    matches!(verdict(&program.text()), Verdict::Accepted(_))
+}
+
+/// A main that does nothing.
+fn idle_main() -> Method {
+    let mut main = Method::new(0);
+    main.push(Node::default());
+    main
+}
+
+/// A method that does nothing and is declared to have these grades.
+fn declared(grades: &[u8]) -> Method {
+    let mut method = Method::new(grades.len().ilog2() as u8);
+    method.declared = Some(grades.to_vec());
+    method.push(Node::default());
+    method
+}
+
+/// The table of a method with k lock names that calls one with the grades `callee`, with these locks, under `above`.
+fn table_of_call(k: u8, callee: &[u8], locks: &[u8], above: &[Node]) -> Vec<u8> {
+    let mut method = Method::new(k);
+    let plain = method.push(Node::default());
+    method.push(Node::of(op::CALL, &[plain]).naming(2, locks));
+    for &node in above {
+        method.push(node);
+    }
+    let program = Program { fields: Vec::new(), methods: vec![idle_main(), method, declared(callee)] };
+    let (verdict, answer) = graded(&program.text());
+    assert!(matches!(verdict, Verdict::Accepted(_)), "{verdict:?}");
+    answer[16..16 + (1 << k)].to_vec()
+}
+
+fn synchronised_on_0() -> Node {
+    Node::of(op::SYNCHRONISED, &[1]).naming(0, &[0])
+}
+
+#[test]
+fn p5_to_p8_synchronised() {
+    assert_eq!(table_of_call(1, &[1, 1], &[0], &[synchronised_on_0()]), [2, 1]);
+    assert_eq!(table_of_call(1, &[4, 1], &[0], &[synchronised_on_0()]), [2, 1]);
+    assert_eq!(table_of_call(1, &[3, 3], &[0], &[synchronised_on_0()]), [3, 3]);
+    assert_eq!(table_of_call(2, &[4, 4, 1, 1], &[0, 1], &[synchronised_on_0()]), [4, 4, 2, 1]);
+}
+
+#[test]
+fn p9_assert_of_cmpd_is_error() {
+    assert_eq!(table_of_call(0, &[3], &[], &[Node::of(op::ASSERT, &[1])]), [4]);
+}
+
+#[test]
+fn p10_both_names_to_one_lock() {
+    assert_eq!(table_of_call(1, &[4, 3, 2, 1], &[0, 0], &[]), [4, 1]);
+}
+
+#[test]
+fn p11_one_name_without_a_constant_lock() {
+    assert_eq!(table_of_call(1, &[4, 3, 2, 1], &[0, NO_NAME], &[]), [4, 3]);
+}
+
+#[test]
+fn p12_main_reads_and_calls_itself() {
+    let mut main = Method::new(0);
+    let plain = main.push(Node::default());
+    let read = main.push(Node::of(op::READ, &[plain]).naming(0, &[]));
+    main.push(Node::of(op::CALL, &[read]).naming(0, &[]));
+    let program = Program { fields: vec![Field { wide: 0, guard: 3 }], methods: vec![main] };
+    let (verdict, answer) = graded(&program.text());
+    assert_eq!(verdict, Verdict::Accepted(Accepted { methods: 1, rounds: 2 }));
+    assert_eq!(answer[0], 3);
+}
+
+#[test]
+fn four_and_five_locks() {
+    let with_locks = |k: u8| {
+        let mut method = Method::new(k);
+        method.push(Node::default());
+        Program { fields: Vec::new(), methods: vec![idle_main(), method] }
+    };
+    assert!(is_accepted(&with_locks(4)));
+    assert_eq!(verdict(&with_locks(5).text()), Verdict::Refused(Refusal::Value { line: 3 }));
+}
+
+#[test]
+fn limits_of_the_header() {
+    let past = Verdict::Refused(Refusal::Value { line: 1 });
+    let methods = |count: usize| Program { fields: Vec::new(), methods: vec![idle_main(); count] };
+    assert!(is_accepted(&methods(64)));
+    assert_eq!(verdict(&methods(65).text()), past);
+    let fields = |count| Program { fields: vec![Field { wide: 1, guard: 2 }; count], methods: vec![idle_main()] };
+    assert!(is_accepted(&fields(64)));
+    assert_eq!(verdict(&fields(65).text()), past);
+    assert!(is_accepted(&limits::one_method(1024)));
+    assert_eq!(verdict(&limits::one_method(1025).text()), past);
+}
+
+#[test]
+fn texts_of_the_longest_length_and_one_more() {
+    let of_len = |len: usize| {
+        let mut text = limits::one_method(1024).text();
+        text.extend(b"00\n");
+        text.resize(len, b'0');
+        text
+    };
+    // The header, 1 method and 1,024 nodes come before the line too many.
+    assert_eq!(verdict(&of_len(LONGEST_TEXT)), Verdict::Refused(Refusal::Frame { line: 1027 }));
+    assert_eq!(verdict(&of_len(LONGEST_TEXT + 1)), Verdict::Refused(Refusal::TextTooLong));
+}

@@ -1,0 +1,107 @@
+//! The paper's rules in plain Rust, written to be held against the paper line by line, not to be fast.
+//!
+//! It shares no form with the checker that it judges: programs are trees, grades an enum, the lowest tables are found by a
+//! worklist, and the rounds are counted apart from that.
+
+mod constraints;
+mod frames;
+mod grade;
+mod lowest;
+mod program;
+
+pub use grade::Grade;
+pub use program::Table;
+
+use program::Program;
+use verdict::{Accepted, Refusal, Verdict, ANSWER_LEN};
+
+/// All that is to be known of a text that can be read.
+#[derive(Clone, Debug)]
+pub struct Graded {
+    /// Accepted or refusal 7.
+    pub verdict: Verdict,
+    /// The lowest tables, method by method, for a text of refusal 7 too.
+    pub tables: Vec<Table>,
+}
+
+/// Grades a text whose answer has the right length, or gives refusal 2 to 6.
+pub fn graded(text: &[u8]) -> Result<Graded, Refusal> {
+    let program = frames::read(text)?;
+    let tables = lowest::tables(&program);
+    let (rounds, reached) = lowest::rounds(&program);
+    assert_eq!(tables, reached, "the worklist and the rounds find other tables");
+    let verdict = match constraints::first_broken(&program, &tables) {
+        Some(broken) => Verdict::Refused(Refusal::Broken(broken)),
+        None => Verdict::Accepted(Accepted { methods: count(&program), rounds }),
+    };
+    Ok(Graded { verdict, tables })
+}
+
+fn count(program: &Program) -> u8 {
+    program.methods.len() as u8
+}
+
+/// Grades a text into a lent answer, which a refusal leaves untouched.
+pub fn grade(text: &[u8], answer: &mut [u8]) -> Verdict {
+    if answer.len() != ANSWER_LEN {
+        return Verdict::Refused(Refusal::AnswerLength);
+    }
+    match graded(text) {
+        Err(refusal) => Verdict::Refused(refusal),
+        Ok(graded) => {
+            if let Verdict::Accepted(_) = graded.verdict {
+                answer.copy_from_slice(&graded.answer());
+            }
+            graded.verdict
+        }
+    }
+}
+
+impl Graded {
+    /// "Entry number h of method m at 16m + h; every other byte 0."
+    pub fn answer(&self) -> [u8; ANSWER_LEN] {
+        let mut answer = [0; ANSWER_LEN];
+        for (method, table) in self.tables.iter().enumerate() {
+            for (entry, grade) in table.iter().enumerate() {
+                answer[16 * method + entry] = grade.number();
+            }
+        }
+        answer
+    }
+
+    fn answer_lines(&self, accepted: Accepted) -> String {
+        let mut lines = format!("10{:02X}{:04X}\n", accepted.methods, accepted.rounds);
+        for (method, table) in self.tables.iter().enumerate() {
+            let grades: String = table.iter().map(|grade| format!("{:02X}", grade.number())).collect();
+            lines += &format!("11{method:02X}{:02X}{grades}\n", table.len().ilog2());
+        }
+        lines
+    }
+}
+
+/// "1F, number, line in two bytes, method, kind, node in two bytes, held set".
+fn refusal_line(refusal: Refusal) -> String {
+    let (method, kind, node, held) = match refusal {
+        Refusal::Broken(broken) => {
+            let node = match broken.kind {
+                verdict::Kind::Fork { node } => node,
+                verdict::Kind::Declared | verdict::Kind::Main => 0,
+            };
+            (broken.method, broken.kind.number(), node, broken.held)
+        }
+        _ => (0, 0, 0, 0),
+    };
+    format!("1F{:02X}{:04X}{method:02X}{kind:02X}{node:04X}{held:02X}\n", refusal.number(), refusal.line())
+}
+
+/// What the grading program prints for a text.
+pub fn session(text: &[u8]) -> Vec<u8> {
+    let lines = match graded(text) {
+        Err(refusal) => refusal_line(refusal),
+        Ok(graded) => match graded.verdict {
+            Verdict::Accepted(accepted) => graded.answer_lines(accepted),
+            Verdict::Refused(refusal) => refusal_line(refusal),
+        },
+    };
+    lines.into_bytes()
+}

@@ -1,0 +1,80 @@
+/* The proved checker of atomicity, for C.
+ *
+ * A program comes as a text of frames. Each method is graded for each set of its lock names that its caller may hold:
+ * const 0, mover 1, atomic 2, cmpd 3 or error 4. Link with libexports.a (`rt staticlib exports`).
+ *
+ * Each pointer must be good for as many bytes as the length after it says. No two of them may overlap, and none may be
+ * NULL, not even before a length of 0. */
+#ifndef IKHZORVAN_H
+#define IKHZORVAN_H
+
+#include <stddef.h>
+#include <stdint.h>
+
+#ifdef __cplusplus
+extern "C" {
+#endif
+
+/* Entry number h of method m stands at 16m + h of the answer, every other byte is 0. Bit j of h says that the method's lock
+ * name j is held. */
+#define IKHZORVAN_ANSWER_LEN 1024
+
+/* The longest text that is read at all. */
+#define IKHZORVAN_LONGEST_TEXT 32768
+
+/* The longest session: the answer frame, and 64 methods with 16 grades each. */
+#define IKHZORVAN_LONGEST_SESSION 2505
+
+/* What ikhzorvan_grade returns. Lines count from 1. */
+enum {
+    IKHZORVAN_ACCEPTED = 0,      /* the answer holds the lowest grades that meet every constraint */
+    IKHZORVAN_ANSWER_LENGTH = 1, /* the answer is not 1,024 bytes long */
+    IKHZORVAN_TEXT_TOO_LONG = 2, /* the text is longer than 32,768 bytes */
+    IKHZORVAN_DIGITS = 3,        /* the line is empty, has a byte that is no digit or an odd count of digits, or lacks its
+                                    0A */
+    IKHZORVAN_FRAME = 4,         /* the frame is not of the kind due or of wrong length, the text ended early, or this is a
+                                    line too many */
+    IKHZORVAN_VALUE = 5,         /* a value is out of its range, or a byte that must be 00 isn't */
+    IKHZORVAN_NAMING = 6,        /* node counts don't total the header's, or a child, field, method or lock name cannot be
+                                    named here */
+    IKHZORVAN_BROKEN = 7,        /* the text can be read, and its lowest grades break a constraint */
+    IKHZORVAN_BAD_RECORD = 255   /* the record is not 11 bytes long; nothing at all was written */
+};
+
+/* The places of a record. Two-byte numbers are high byte first, and numbers that don't apply are 0. */
+enum {
+    IKHZORVAN_AT_NUMBER = 0,  /* the refusal number, as returned */
+    IKHZORVAN_AT_LINE = 1,    /* two bytes: the line of refusals 3 to 6 */
+    IKHZORVAN_AT_METHOD = 3,  /* refusal 7: the method of the first broken constraint */
+    IKHZORVAN_AT_KIND = 4,    /* refusal 7: the kind of the constraint, below */
+    IKHZORVAN_AT_NODE = 5,    /* two bytes: for kind 3 the fork node, counted from 0 within its method */
+    IKHZORVAN_AT_HELD = 7,    /* refusal 7: the lowest held set at which the constraint is broken */
+    IKHZORVAN_AT_METHODS = 8, /* accepted: how many methods the text has */
+    IKHZORVAN_AT_ROUNDS = 9,  /* two bytes, accepted: the least n such that round n + 1 changes no table */
+    IKHZORVAN_RECORD_LEN = 11
+};
+
+/* The kinds of constraint. */
+enum {
+    IKHZORVAN_KIND_DECLARED = 1, /* a declared method's body is no worse than the method's declaration */
+    IKHZORVAN_KIND_MAIN = 2,     /* the main, method 0, is at most cmpd */
+    IKHZORVAN_KIND_FORK = 3      /* a forked method is at most cmpd wherever its lock 0 is held */
+};
+
+/* Grades a text, writes the record and returns the refusal number. The answer is written only if that is 0.
+ *
+ * `record` must be 11 bytes; at any other length 255 is returned and nothing at all is written. `answer` must be 1,024
+ * bytes; any other length is refusal 1. */
+uint8_t ikhzorvan_grade(const uint8_t *text, size_t text_len, uint8_t *answer, size_t answer_len, uint8_t *record,
+                        size_t record_len);
+
+/* Writes the bytes that the grading program prints for a text, and returns how many they are.
+ *
+ * If `out` is shorter than that, nothing is written. Bytes of `out` past the session are untouched. */
+size_t ikhzorvan_session(const uint8_t *text, size_t text_len, uint8_t *out, size_t out_len);
+
+#ifdef __cplusplus
+}
+#endif
+
+#endif
