@@ -82,6 +82,7 @@ pub use accessors::nodes;
 pub use accessors::op;
 pub use accessors::used;
 pub use accessors::width;
+pub use lines::frame_length;
 pub use ranges::children_listed;
 pub use reading::line;
 pub use reading::number;

@@ -73,7 +73,7 @@ impl Place {
 }
 
 // How many bytes a line has; 0 if it is malformed.
-pub(crate) fn frame_length(line: &[u8]) -> usize
+pub fn frame_length(line: &[u8]) -> usize
     ensures { λ r. ⌜ r ≡ frameLength (now (line .entry)) ⌝ }
 {
     let mut i: usize = 0;
