@@ -26,11 +26,7 @@ fn main() -> ExitCode {
 }
 
 fn run_vectors(graders: &[Box<dyn Grader>]) -> bool {
-    let Some(folder) = vectors::folder() else {
-        println!("vectors: skipped, there are none in the repository or beside it");
-        return true;
-    };
-    match vectors::run(&folder, graders) {
+    match vectors::run(graders) {
         Ok((count, differences)) => {
             println!("vectors: {count} texts, {} differences", differences.len());
             differences.iter().for_each(|difference| println!("{difference}"));

@@ -1,41 +1,46 @@
-//! The vectors: texts, each with what the grading program must print for it.
+//! The vectors: the texts that the gate runs, and what the grading program must print for each.
 
 use crate::graders::Grader;
-use std::path::{Path, PathBuf};
+use std::path::Path;
 use std::{fs, io};
 use verdict::LONGEST_SESSION;
 
-/// Where vectors may stand, from the repository's top.
-const FOLDERS: [&str; 2] = ["crates/vectors/data", "../shared/vectors/base"];
+/// The gate's crate: `args` names the texts in `data/`; `stdout` has each name on a line and then its session's lines.
+const CRATE: &str = concat!(env!("CARGO_MANIFEST_DIR"), "/../../crates/vectors");
 
-/// The first of the folders that holds vectors.
-pub fn folder() -> Option<PathBuf> {
-    let top = Path::new(env!("CARGO_MANIFEST_DIR")).join("../..");
-    FOLDERS.into_iter().map(|folder| top.join(folder)).find(|folder| texts(folder).is_ok_and(|texts| !texts.is_empty()))
-}
-
-fn texts(folder: &Path) -> io::Result<Vec<PathBuf>> {
-    let paths = fs::read_dir(folder)?.map(|entry| entry.map(|entry| entry.path())).collect::<io::Result<Vec<_>>>()?;
-    let mut texts: Vec<_> =
-        paths.into_iter().filter(|path| path.extension().is_some_and(|end| end == "text")).collect();
-    texts.sort();
-    Ok(texts)
+/// What `stdout` has for each name, in the order of the names.
+fn sessions<'a>(names: &'a str, stdout: &'a str) -> Option<Vec<(&'a str, &'a str)>> {
+    let mut sessions = Vec::new();
+    let mut rest = stdout;
+    let mut names = names.lines().peekable();
+    while let Some(name) = names.next() {
+        rest = rest.strip_prefix(name)?.strip_prefix('\n')?;
+        let end = match names.peek() {
+            Some(next) => rest.find(&format!("\n{next}\n"))? + 1,
+            None => rest.len(),
+        };
+        sessions.push((name, &rest[..end]));
+        rest = &rest[end..];
+    }
+    Some(sessions)
 }
 
 /// Runs every grader on every vector. Tells how many there are, and each difference in words.
-pub fn run(folder: &Path, graders: &[Box<dyn Grader>]) -> io::Result<(usize, Vec<String>)> {
-    let texts = texts(folder)?;
+pub fn run(graders: &[Box<dyn Grader>]) -> io::Result<(usize, Vec<String>)> {
+    let folder = Path::new(CRATE);
+    let (names, stdout) = (fs::read_to_string(folder.join("args"))?, fs::read_to_string(folder.join("stdout"))?);
+    let sessions = sessions(&names, &stdout).ok_or(io::ErrorKind::InvalidData)?;
     let mut differences = Vec::new();
-    for path in &texts {
-        let (text, due) = (fs::read(path)?, fs::read(path.with_extension("out"))?);
+    for &(name, due) in &sessions {
+        let text = fs::read(folder.join("data").join(name))?;
         for grader in graders {
             let mut out = vec![0; LONGEST_SESSION];
             let len = grader.session(&text, &mut out);
-            if out.get(..len) != Some(&due) {
+            if out.get(..len) != Some(due.as_bytes()) {
                 let found = String::from_utf8_lossy(&out[..len.min(LONGEST_SESSION)]);
-                differences.push(format!("{} on {}:\n{found}", grader.name(), path.display()));
+                differences.push(format!("{} on {name}:\n{found}", grader.name()));
             }
         }
     }
-    Ok((texts.len(), differences))
+    Ok((sessions.len(), differences))
 }
