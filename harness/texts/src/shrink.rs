@@ -51,21 +51,21 @@ fn smaller_programs(program: &Program) -> impl Iterator<Item = Program> + '_ {
 fn without_method(program: &Program, number: usize) -> Program {
     let mut program = program.clone();
     program.methods.remove(number);
-    for node in program.methods.iter_mut().flat_map(|method| &mut method.nodes) {
-        if matches!(node.op, op::CALL | op::FORK) {
-            renumber(node, number);
-        }
-    }
-    program
+    renumbered(program, [op::CALL, op::FORK], number)
 }
 
 /// The program without a field; accesses to it become plain.
 fn without_field(program: &Program, number: usize) -> Program {
     let mut program = program.clone();
     program.fields.remove(number);
+    renumbered(program, [op::READ, op::WRITE], number)
+}
+
+/// The program once what the nodes of two ops name, the field or method `gone`, is there no more.
+fn renumbered(mut program: Program, ops: [u8; 2], gone: usize) -> Program {
     for node in program.methods.iter_mut().flat_map(|method| &mut method.nodes) {
-        if matches!(node.op, op::READ | op::WRITE) {
-            renumber(node, number);
+        if ops.contains(&node.op) {
+            renumber(node, gone);
         }
     }
     program
