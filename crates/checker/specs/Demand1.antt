@@ -2,16 +2,16 @@
 -- has one number, one order and one place. A refusal leaves the answer just as it was.
 -- Assumes nothing.
 use Prim.Native.Nat.{ℕ, _+_, _≤_, _<_}
-use mathlib.Core.Bool.{Bool, true, false}
 use mathlib.Core.List.{List}
 use mathlib.Core.Path.{_≡_, refl, sym, ap, ap₂, _∙_, subst}
 use native.Mathlib.Decide.{decLt, ℕ-discrete}
 use native.Mathlib.Omega.{arith}
 use lib.ListN.{length}
-use Rattle.frames.specs.Lines.{lines}
+use Rattle.frames.specs.Layout.{layout, answerLength}
+use Rattle.lines.specs.Lines.{lines}
 use Rattle.frames.specs.Reading.{readText, readAll, outcomeOf}
-use Rattle.frames.specs.Refused.{First, Faultless}
-use Rattle.frames.specs.Read.{long-exactly, short-outcome, refused, refused-exactly, read-faultless, read-exactly}
+use Rattle.frames.specs.FirstFault.{First, Faultless}
+use Rattle.frames.specs.Promises.{long-exactly, short-outcome, refused, refused-exactly, read-faultless, read-exactly}
 use Rattle.frames.specs.declared.Checked.{Checked}
 use Rattle.frames.specs.declared.Fault.{Fault}
 use Rattle.frames.specs.declared.Fault.the-variants as Fault
@@ -19,39 +19,39 @@ use Rattle.frames.specs.declared.Outcome.{Outcome}
 use Rattle.frames.specs.declared.Outcome.the-variants as Outcome
 use Rattle.meaning.specs.Lowest.{methodCount}
 use Rattle.meaning.specs.Constraints.{Answer, accepted, refused as broken, answer, entryOf}
-use Rattle.solver.specs.FlatLaws.{flat-length}
-use Rattle.checker.specs.Grading.{answerLength, programRead, byAnswer, byReading, verdictOf, bytesByAnswer, bytesByReading, answerOf, numbersOf}
-use Rattle.checker.specs.GradingLaws.{wrong-verdict, wrong-bytes, right-verdict, right-bytes}
+use Rattle.solver.specs.Laws.Flat.{flat-length}
+use Rattle.checker.specs.Grading.{programRead, byAnswer, byReading, verdictOf, bytesByAnswer, bytesByReading, answerOf, numbersOf}
+use Rattle.checker.specs.Laws.Grading.{wrong-verdict, wrong-bytes, right-verdict, right-bytes}
 use Rattle.checker.specs.declared.Verdict.{Verdict}
 use Rattle.checker.specs.declared.Verdict.the-variants.{Accepted, WrongLength, Overlong, Malformed, Misplaced, OutOfRange, Unlinked, Broken}
 
 -- ---- the statement
 
 -- a text that is neither too long nor faulty in any line, with an answer of the right length
-pub record Sound (text : List ℕ) (room : ℕ) : Type 0 where
-  pub answer : room ≡ answerLength
-  pub short : length text ≤ 32768
+pub record Gradable (text : List ℕ) (lent : ℕ) : Type 0 where
+  pub answer : lent ≡ answerLength
+  pub short : length text ≤ layout .mostText
   pub lines : Faultless (lines text)
 
 -- the line, from 1, is the first of the text with any fault, and this is its fault
-pub record Faulty (text : List ℕ) (room : ℕ) (fault : Fault) (line : ℕ) : Type 0 where
-  pub answer : room ≡ answerLength
-  pub short : length text ≤ 32768
+pub record Faulty (text : List ℕ) (lent : ℕ) (fault : Fault) (line : ℕ) : Type 0 where
+  pub answer : lent ≡ answerLength
+  pub short : length text ≤ layout .mostText
   pub before : ℕ
   pub follows : line ≡ before + 1
   pub first : First (lines text) fault before
 
 -- the table of refusal numbers: when each is "given exactly if"
-abbrev pub Case : (text : List ℕ) (room : ℕ) → Verdict → Type 0
-Case text room (Accepted methods rounds) =
-    Sound text room × ((tables : List (List ℕ)) × (answer (programRead text) ≡ accepted rounds tables)) × (methods ≡ methodCount (programRead text))
-Case text room WrongLength = room ≡ answerLength → ⊥
-Case text room Overlong = (room ≡ answerLength) × (32768 < length text)
-Case text room (Malformed line) = Faulty text room Fault.Malformed line
-Case text room (Misplaced line) = Faulty text room Fault.Misplaced line
-Case text room (OutOfRange line) = Faulty text room Fault.OutOfRange line
-Case text room (Unlinked line) = Faulty text room Fault.Unlinked line
-Case text room (Broken method kind node set) = Sound text room × (answer (programRead text) ≡ broken method kind node set)
+abbrev pub Case : (text : List ℕ) (lent : ℕ) → Verdict → Type 0
+Case text lent (Accepted methods rounds) =
+    Gradable text lent × ((tables : List (List ℕ)) × (answer (programRead text) ≡ accepted rounds tables)) × (methods ≡ methodCount (programRead text))
+Case text lent WrongLength = lent ≡ answerLength → ⊥
+Case text lent Overlong = (lent ≡ answerLength) × (layout .mostText < length text)
+Case text lent (Malformed line) = Faulty text lent Fault.Malformed line
+Case text lent (Misplaced line) = Faulty text lent Fault.Misplaced line
+Case text lent (OutOfRange line) = Faulty text lent Fault.OutOfRange line
+Case text lent (Unlinked line) = Faulty text lent Fault.Unlinked line
+Case text lent (Broken method kind node set) = Gradable text lent × (answer (programRead text) ≡ broken method kind node set)
 
 pub record Demand1 (text old : List ℕ) : Type 0 where
   -- the verdict is the case, and no other verdict is
@@ -64,15 +64,15 @@ pub record Demand1 (text old : List ℕ) : Type 0 where
 -- ---- the proof
 
 module _ (text : List ℕ) where
-  outcome-long : 32768 < length text → readText text .outcome ≡ Outcome.Overlong
+  outcome-long : (layout .mostText) < length text → readText text .outcome ≡ Outcome.Overlong
   outcome-long h = ap (λ (c : Checked). c .outcome) (long-exactly text h)
 
   -- the text is accepted, or refused by 7
-  by-answer : (n : ℕ) (x : Answer) → Sound text n → answer (programRead text) ≡ x → Case text n (byAnswer x (methodCount (programRead text)))
+  by-answer : (n : ℕ) (x : Answer) → Gradable text n → answer (programRead text) ≡ x → Case text n (byAnswer x (methodCount (programRead text)))
   by-answer n (accepted r tables) s e = (s, (tables, e), refl)
   by-answer n (broken m k nd H) s e = (s, e)
 
-  by-outcome : (n : ℕ) → n ≡ answerLength → length text ≤ 32768 → (x : Fault) (i : ℕ) → readText text .outcome ≡ outcomeOf x i
+  by-outcome : (n : ℕ) → n ≡ answerLength → length text ≤ layout .mostText → (x : Fault) (i : ℕ) → readText text .outcome ≡ outcomeOf x i
       → Case text n (byReading (outcomeOf x i) (programRead text))
   by-outcome n h l Fault.Sound i e =
       by-answer n (answer (programRead text)) (record { answer = h; short = l; lines = read-faultless text e .1 }) refl
@@ -88,15 +88,15 @@ module _ (text : List ℕ) where
   is-given : (n : ℕ) → Case text n (verdictOf text n)
   is-given n = go (ℕ-discrete n answerLength)
     where
-      read : n ≡ answerLength → Dec (32768 < length text) → Case text n (verdictOf text n)
+      read : n ≡ answerLength → Dec (layout .mostText < length text) → Case text n (verdictOf text n)
       read h (yes l) = subst (Case text n) (sym (right-verdict text n Outcome.Overlong h (outcome-long l))) (h, l)
       read h (no l) =
-          let short : length text ≤ 32768 = omega arith in
+          let short : length text ≤ layout .mostText = omega arith in
           let e = short-outcome text short in
           subst (Case text n) (sym (right-verdict text n _ h e)) (by-outcome n h short (readAll (lines text) .fault) (readAll (lines text) .before) e)
 
       go : Dec (n ≡ answerLength) → Case text n (verdictOf text n)
-      go (yes h) = read h (decLt 32768 (length text))
+      go (yes h) = read h (decLt (layout .mostText) (length text))
       go (no h) = subst (Case text n) (sym (wrong-verdict text n h)) h
 
   first-fault : (n : ℕ) (x : Fault) (line : ℕ) → (f : Faulty text n x line) → byReading (outcomeOf x (f .before)) (programRead text) ≡ verdictOf text n
@@ -104,7 +104,7 @@ module _ (text : List ℕ) where
       sym (right-verdict text n (outcomeOf x (f .before)) (f .answer)
       (ap (λ (c : Checked). c .outcome) (refused-exactly text x (f .before) (f .short) (f .first))))
 
-  whole : (n : ℕ) → Sound text n → byAnswer (answer (programRead text)) (methodCount (programRead text)) ≡ verdictOf text n
+  whole : (n : ℕ) → Gradable text n → byAnswer (answer (programRead text)) (methodCount (programRead text)) ≡ verdictOf text n
   whole n s = sym (right-verdict text n Outcome.Whole (s .answer) (ap (λ (c : Checked). c .outcome) (read-exactly text (s .short) (s .lines))))
 
   is-only : (n : ℕ) (v : Verdict) → Case text n v → v ≡ verdictOf text n

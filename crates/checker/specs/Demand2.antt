@@ -8,18 +8,18 @@ use mathlib.Core.Logic.{_↔_}
 use mathlib.Core.Path.{_≡_, refl, sym, ap, _∙_, subst}
 use native.Mathlib.Omega.{arith}
 use lib.ListN.{length, getD}
+use Rattle.frames.specs.Layout.{layout, answerLength}
 use Rattle.frames.specs.declared.Checked.{Checked}
 use Rattle.frames.specs.declared.Outcome.the-variants as Outcome
-use Rattle.frames.specs.Read.{read-exactly}
+use Rattle.frames.specs.Promises.{read-exactly}
 use Rattle.meaning.specs.Meaning.{Assignment}
 use Rattle.meaning.specs.Lowest.{methodCount}
 use Rattle.meaning.specs.Constraints.{Satisfies, Answer, accepted, refused, answer, entryOf}
 use Rattle.meaning.specs.Demand2.{IsRounds, LowestOfAll, Named, Permitted, demand-2}
-use Rattle.solver.specs.Flat.{flat}
-use Rattle.solver.specs.FlatLaws.{flat-entry}
-use Rattle.checker.specs.Grading.{answerLength, programRead, byAnswer, verdictOf, bytesByAnswer, answerOf}
-use Rattle.checker.specs.GradingLaws.{right-verdict, right-bytes}
-use Rattle.checker.specs.Demand1.{Sound}
+use Rattle.solver.specs.Laws.Flat.{flat-entry}
+use Rattle.checker.specs.Grading.{programRead, byAnswer, verdictOf, bytesByAnswer, answerOf}
+use Rattle.checker.specs.Laws.Grading.{right-verdict, right-bytes}
+use Rattle.checker.specs.Demand1.{Gradable}
 use Rattle.checker.specs.declared.Verdict.{Verdict}
 use Rattle.checker.specs.declared.Verdict.the-variants.{Accepted, Broken}
 
@@ -27,12 +27,12 @@ use Rattle.checker.specs.declared.Verdict.the-variants.{Accepted, Broken
 
 -- the text is accepted: the answer holds the lowest of all assignments that satisfy every constraint, and the rounds are those that
 -- reached it
-pub record AcceptedBy (text old : List ℕ) (methods rounds : ℕ) : Type 0 where
+pub record AcceptedAnswer (text old : List ℕ) (methods rounds : ℕ) : Type 0 where
   pub counted : methods ≡ methodCount (programRead text)
   pub reached : IsRounds (programRead text) rounds
   pub grades : Assignment
   pub lowest : LowestOfAll (programRead text) grades
-  pub entries : (m h : ℕ) → m < 64 → h < 16 → getD (answerOf text old) (16 * m + h) 0 ≡ grades m h
+  pub entries : (m h : ℕ) → m < layout .mostMethods → h < layout .grades → getD (answerOf text old) (layout .grades * m + h) 0 ≡ grades m h
 
 pub record BrokenBy (text : List ℕ) : Type 0 where
   pub method : ℕ
@@ -42,23 +42,23 @@ pub record BrokenBy (text : List ℕ) : Type 0 where
   pub says : verdictOf text answerLength ≡ Broken method kind node set
 
 pub record Demand2 (text old : List ℕ) : Type 0 where
-  pub accepted : (methods rounds : ℕ) → verdictOf text (length old) ≡ Accepted methods rounds → AcceptedBy text old methods rounds
+  pub accepted : (methods rounds : ℕ) → verdictOf text (length old) ≡ Accepted methods rounds → AcceptedAnswer text old methods rounds
   pub refused : BrokenBy text ↔ ((a : Assignment) → Satisfies (programRead text) a → ⊥)
   pub named : (method kind node set : ℕ) → verdictOf text (length old) ≡ Broken method kind node set → Named (programRead text) method kind node set
 
 -- ---- the proof
 
 module _ (text : List ℕ) where
-  pub says : (n : ℕ) → Sound text n → verdictOf text n ≡ byAnswer (answer (programRead text)) (methodCount (programRead text))
+  pub says : (n : ℕ) → Gradable text n → verdictOf text n ≡ byAnswer (answer (programRead text)) (methodCount (programRead text))
   says n s = right-verdict text n Outcome.Whole (s .answer) (ap (λ (c : Checked). c .outcome) (read-exactly text (s .short) (s .lines)))
 
-  pub bytes : (old : List ℕ) → Sound text (length old) → answerOf text old ≡ bytesByAnswer (answer (programRead text)) old
+  pub bytes : (old : List ℕ) → Gradable text (length old) → answerOf text old ≡ bytesByAnswer (answer (programRead text)) old
   bytes old s = right-bytes text old Outcome.Whole (s .answer) (ap (λ (c : Checked). c .outcome) (read-exactly text (s .short) (s .lines)))
 
-  is-accepted : (old : List ℕ) → Sound text (length old) → (m r : ℕ) → verdictOf text (length old) ≡ Accepted m r → AcceptedBy text old m r
+  is-accepted : (old : List ℕ) → Gradable text (length old) → (m r : ℕ) → verdictOf text (length old) ≡ Accepted m r → AcceptedAnswer text old m r
   is-accepted old s m r e = go (answer (programRead text)) refl
     where
-      go : (x : Answer) → answer (programRead text) ≡ x → AcceptedBy text old m r
+      go : (x : Answer) → answer (programRead text) ≡ x → AcceptedAnswer text old m r
       go (accepted r′ tables) q =
           let found : Accepted (methodCount (programRead text)) r′ ≡ Accepted m r
           = ap (λ (y : Answer). byAnswer y (methodCount (programRead text))) (sym q) ∙ sym (says (length old) s) ∙ e in
@@ -70,14 +70,14 @@ module _ (text : List ℕ) where
             grades = entryOf tables;
             lowest = all .lowest;
             entries = λ i h l k.
-                ap (λ (b : List ℕ). getD b (16 * i + h) 0) (bytes old s ∙ ap (λ (y : Answer). bytesByAnswer y old) q) ∙ flat-entry (entryOf tables) i h l k;
+                ap (λ (b : List ℕ). getD b (layout .grades * i + h) 0) (bytes old s ∙ ap (λ (y : Answer). bytesByAnswer y old) q) ∙ flat-entry (entryOf tables) i h l k;
           }
       go (refused a b c d) q =
           let found : Broken a b c d ≡ Accepted m r
           = ap (λ (y : Answer). byAnswer y (methodCount (programRead text))) (sym q) ∙ sym (says (length old) s) ∙ e in
           let z : _≡_ {A = ℕ} 0 1 = cc in absurd (omega arith)
 
-  answer-refused : (n : ℕ) → Sound text n → (m k nd H : ℕ) → verdictOf text n ≡ Broken m k nd H → answer (programRead text) ≡ refused m k nd H
+  answer-refused : (n : ℕ) → Gradable text n → (m k nd H : ℕ) → verdictOf text n ≡ Broken m k nd H → answer (programRead text) ≡ refused m k nd H
   answer-refused n s m k nd H e = go (answer (programRead text)) refl
     where
       go : (x : Answer) → answer (programRead text) ≡ x → answer (programRead text) ≡ refused m k nd H
@@ -90,10 +90,10 @@ module _ (text : List ℕ) where
           = ap (λ (y : Answer). byAnswer y (methodCount (programRead text))) (sym q) ∙ sym (says n s) ∙ e in
           cc
 
-  is-refused : (n : ℕ) → Sound text n → BrokenBy text ↔ ((a : Assignment) → Satisfies (programRead text) a → ⊥)
+  is-refused : (n : ℕ) → Gradable text n → BrokenBy text ↔ ((a : Assignment) → Satisfies (programRead text) a → ⊥)
   is-refused n s = (none, some)
     where
-      right : Sound text answerLength
+      right : Gradable text answerLength
       right = record { answer = refl; short = s .short; lines = s .lines }
 
       none : BrokenBy text → (a : Assignment) → Satisfies (programRead text) a → ⊥
@@ -112,10 +112,10 @@ module _ (text : List ℕ) where
             says = says answerLength right ∙ ap (λ (y : Answer). byAnswer y (methodCount (programRead text))) (r .says);
           }
 
-  is-named : (n : ℕ) → Sound text n → (m k nd H : ℕ) → verdictOf text n ≡ Broken m k nd H → Named (programRead text) m k nd H
+  is-named : (n : ℕ) → Gradable text n → (m k nd H : ℕ) → verdictOf text n ≡ Broken m k nd H → Named (programRead text) m k nd H
   is-named n s m k nd H e = subst (Permitted (programRead text)) (answer-refused n s m k nd H e) (demand-2 (programRead text) .permitted)
 
 -- of every sound text and every answer of the right length
-pub demand-2-of-the-call : (text old : List ℕ) → Sound text (length old) → Demand2 text old
+pub demand-2-of-the-call : (text old : List ℕ) → Gradable text (length old) → Demand2 text old
 demand-2-of-the-call text old s =
     record { accepted = is-accepted text old s; refused = is-refused text (length old) s; named = is-named text (length old) s }

@@ -10,17 +10,17 @@ use native.Mathlib.Decide.{decLt}
 use native.Mathlib.Nat.{le-of-eq, le-trans}
 use native.Mathlib.Omega.{arith}
 use lib.ListN.{length, getD, List·getD-eq-default}
+use Rattle.frames.specs.Layout.{layout, answerLength}
 use Rattle.grades.specs.HeldSets.{Within}
-use Rattle.frames.specs.Program.{Program}
 use Rattle.meaning.specs.Meaning.{Assignment}
 use Rattle.meaning.specs.Lowest.{NoWorse, methodCount, entryCount}
 use Rattle.meaning.specs.Constraints.{Answer, accepted, refused, answer, entryOf}
-use Rattle.meaning.specs.Changes.{StruckOut, WrittenBack, AntitoneAt}
+use Rattle.meaning.specs.Changes.{StruckOut, WrittenBack}
 use Rattle.meaning.specs.Demand3.{DeclaredAntitone, demand-3}
 use Rattle.solver.specs.Flat.{flat}
-use Rattle.solver.specs.FlatLaws.{flat-length, flat-at, flat-entry}
-use Rattle.checker.specs.Grading.{answerLength, programRead, byAnswer, verdictOf, bytesByAnswer, answerOf}
-use Rattle.checker.specs.Demand1.{Sound}
+use Rattle.solver.specs.Laws.Flat.{flat-length, flat-at, flat-entry}
+use Rattle.checker.specs.Grading.{programRead, byAnswer, verdictOf, bytesByAnswer, answerOf}
+use Rattle.checker.specs.Demand1.{Gradable}
 use Rattle.checker.specs.Demand2.{says, bytes}
 use Rattle.checker.specs.declared.Verdict.{Verdict}
 use Rattle.checker.specs.declared.Verdict.the-variants.{Accepted, Broken}
@@ -29,16 +29,16 @@ use Rattle.checker.specs.declared.Verdict.the-variants.{Accepted, Broken
 
 -- the call accepts a sound text, with an answer of the right length lent
 pub record Passes (text old : List ℕ) : Type 0 where
-  pub sound : Sound text (length old)
+  pub sound : Gradable text (length old)
   pub methods : ℕ
   pub rounds : ℕ
   pub accepts : verdictOf text (length old) ≡ Accepted methods rounds
 
 -- (a)
-abbrev pub HeldSets : (text old : List ℕ) → Type 0
-HeldSets text old =
-    DeclaredAntitone (programRead text) → (m H H′ : ℕ) → m < 64 → H < 16 → H′ < 16 → H < entryCount (programRead text) m → H′ < entryCount (programRead text) m
-    → Within H H′ → getD (answerOf text old) (16 * m + H′) 0 ≤ getD (answerOf text old) (16 * m + H) 0
+abbrev pub FallingBytes : (text old : List ℕ) → Type 0
+FallingBytes text old =
+    DeclaredAntitone (programRead text) → (m H H′ : ℕ) → m < layout .mostMethods → H < layout .grades → H′ < layout .grades → H < entryCount (programRead text) m → H′ < entryCount (programRead text) m
+    → Within H H′ → getD (answerOf text old) (layout .grades * m + H′) 0 ≤ getD (answerOf text old) (layout .grades * m + H) 0
 
 -- (b)
 pub record NoWorseBytes (text old text′ old′ : List ℕ) : Type 0 where
@@ -51,9 +51,9 @@ pub record SameBytes (text old text′ old′ : List ℕ) : Type 0 where
   pub same : answerOf text′ old′ ≡ answerOf text old
 
 pub record Demand3 (text old : List ℕ) : Type 0 where
-  pub held-sets : HeldSets text old
-  pub striking-out : (text′ old′ : List ℕ) → Sound text′ (length old′) → StruckOut (programRead text) (programRead text′) → NoWorseBytes text old text′ old′
-  pub writing-back : (text′ old′ : List ℕ) (tables : List (List ℕ)) (r : ℕ) → answer (programRead text) ≡ accepted r tables → Sound text′ (length old′)
+  pub held-sets : FallingBytes text old
+  pub striking-out : (text′ old′ : List ℕ) → Gradable text′ (length old′) → StruckOut (programRead text) (programRead text′) → NoWorseBytes text old text′ old′
+  pub writing-back : (text′ old′ : List ℕ) (tables : List (List ℕ)) (r : ℕ) → answer (programRead text) ≡ accepted r tables → Gradable text′ (length old′)
       → WrittenBack (programRead text) (entryOf tables) (programRead text′) → SameBytes text old text′ old′
 
 -- ---- the proof
@@ -75,7 +75,7 @@ found text old p = go (answer (programRead text)) refl
         = ap (λ (y : Answer). byAnswer y (methodCount (programRead text))) (sym q) ∙ sym (says text (length old) (p .sound)) ∙ p .accepts in
         let z : _≡_ {A = ℕ} 0 1 = cc in absurd (omega arith)
 
-passes-by : (text old : List ℕ) → Sound text (length old) → (r : ℕ) (t : List (List ℕ)) → answer (programRead text) ≡ accepted r t → Passes text old
+passes-by : (text old : List ℕ) → Gradable text (length old) → (r : ℕ) (t : List (List ℕ)) → answer (programRead text) ≡ accepted r t → Passes text old
 passes-by text old s r t e =
     record {
       sound = s;
@@ -84,29 +84,29 @@ passes-by text old s r t e =
       accepts = says text (length old) s ∙ ap (λ (y : Answer). byAnswer y (methodCount (programRead text))) e;
     }
 
-holds-by : (text old : List ℕ) → Sound text (length old) → (r : ℕ) (t : List (List ℕ)) → answer (programRead text) ≡ accepted r t → answerOf text old ≡ flat (entryOf t)
+holds-by : (text old : List ℕ) → Gradable text (length old) → (r : ℕ) (t : List (List ℕ)) → answer (programRead text) ≡ accepted r t → answerOf text old ≡ flat (entryOf t)
 holds-by text old s r t e = bytes text old s ∙ ap (λ (y : Answer). bytesByAnswer y old) e
 
 flat-lower : (a b : Assignment) → NoWorse a b → (i : ℕ) → getD (flat a) i 0 ≤ getD (flat b) i 0
-flat-lower a b h i = go (decLt i 1024)
+flat-lower a b h i = go (decLt i answerLength)
   where
-    go : Dec (i < 1024) → getD (flat a) i 0 ≤ getD (flat b) i 0
-    go (yes l) = omega (arith, flat-at a i l, flat-at b i l, h (i / 16) (i % 16))
+    go : Dec (i < answerLength) → getD (flat a) i 0 ≤ getD (flat b) i 0
+    go (yes l) = omega (arith, flat-at a i l, flat-at b i l, h (i / layout .grades) (i % layout .grades))
     go (no l) =
         omega (arith, List·getD-eq-default (flat a) 0 {n = i} (omega (arith, flat-length a)), List·getD-eq-default (flat b) 0 {n = i} (omega (arith, flat-length b)))
 
-held-sets-law : (text old : List ℕ) → Passes text old → HeldSets text old
+held-sets-law : (text old : List ℕ) → Passes text old → FallingBytes text old
 held-sets-law text old p anti m H H′ l h h′ k k′ w =
     let f = found text old p in
     let falls = demand-3 (programRead text) .held-sets anti .accepted (f .rounds) (f .tables) (f .is) m .falls H H′ k k′ w in
     omega (
       arith,
       falls,
-      ap (λ (b : List ℕ). getD b (16 * m + H′) 0) (f .holds) ∙ flat-entry (entryOf (f .tables)) m H′ l h′,
-      ap (λ (b : List ℕ). getD b (16 * m + H) 0) (f .holds) ∙ flat-entry (entryOf (f .tables)) m H l h,
+      ap (λ (b : List ℕ). getD b (layout .grades * m + H′) 0) (f .holds) ∙ flat-entry (entryOf (f .tables)) m H′ l h′,
+      ap (λ (b : List ℕ). getD b (layout .grades * m + H) 0) (f .holds) ∙ flat-entry (entryOf (f .tables)) m H l h,
     )
 
-striking-out-law : (text old : List ℕ) → Passes text old → (text′ old′ : List ℕ) → Sound text′ (length old′) → StruckOut (programRead text) (programRead text′)
+striking-out-law : (text old : List ℕ) → Passes text old → (text′ old′ : List ℕ) → Gradable text′ (length old′) → StruckOut (programRead text) (programRead text′)
     → NoWorseBytes text old text′ old′
 striking-out-law text old p text′ old′ s c =
     let f = found text old p in
@@ -123,7 +123,7 @@ striking-out-law text old p text′ old′ s c =
     }
 
 writing-back-law : (text old : List ℕ) → Passes text old → (text′ old′ : List ℕ) (tables : List (List ℕ)) (r : ℕ) → answer (programRead text) ≡ accepted r tables
-    → Sound text′ (length old′) → WrittenBack (programRead text) (entryOf tables) (programRead text′) → SameBytes text old text′ old′
+    → Gradable text′ (length old′) → WrittenBack (programRead text) (entryOf tables) (programRead text′) → SameBytes text old text′ old′
 writing-back-law text old p text′ old′ tables r e s c =
     let q = demand-3 (programRead text) .writing-back r tables e (programRead text′) c in
     record {

@@ -1,12 +1,13 @@
 -- What the call gives for every text and every lent answer: "Order: 1, 2, then line by line, in each line 3, 4, 5, 6, then 7."
 -- Assumes nothing.
 use Prim.Native.Nat.{ℕ}
-use mathlib.Core.Bool.{Bool, true, false, cond}
+use mathlib.Core.Bool.{cond}
 use mathlib.Core.List.{List}
 use lib.Dec.{eqb}
 use lib.ListN.{length}
+use Rattle.frames.specs.Layout.{answerLength}
 use Rattle.frames.specs.Program.{Program}
-use Rattle.frames.specs.Lines.{lines}
+use Rattle.lines.specs.Lines.{lines}
 use Rattle.frames.specs.Frames.{framesOf}
 use Rattle.frames.specs.Tables.{programOf}
 use Rattle.frames.specs.Reading.{readText}
@@ -17,10 +18,6 @@ use Rattle.meaning.specs.Constraints.{Answer, accepted, refused, answer, entryO
 use Rattle.solver.specs.Flat.{flat}
 use Rattle.checker.specs.declared.Verdict.{Verdict}
 use Rattle.checker.specs.declared.Verdict.the-variants.{Accepted, WrongLength, Overlong, Malformed, Misplaced, OutOfRange, Unlinked, Broken}
-
--- "The lent answer holds 1,024 bytes"
-abbrev pub answerLength : ℕ
-answerLength = 1024
 
 -- the program that a text stands for
 abbrev pub programRead : List ℕ → Program
@@ -41,8 +38,8 @@ byReading (Outcome.OutOfRange line) p = OutOfRange line
 byReading (Outcome.Unlinked line) p = Unlinked line
 
 -- of a text, and the length of the answer that is lent
-unfoldable pub verdictOf : List ℕ → (room : ℕ) → Verdict
-verdictOf text room = cond (eqb room answerLength) (byReading (readText text .outcome) (programRead text)) WrongLength
+unfoldable pub verdictOf : List ℕ → (lent : ℕ) → Verdict
+verdictOf text lent = cond (eqb lent answerLength) (byReading (readText text .outcome) (programRead text)) WrongLength
 
 -- ---- the answer
 

@@ -1,10 +1,10 @@
--- The one call, and the user's three demands of it.
+-- The one call, and the user's three demands of it: `Grading` defines what it gives; each demand is a theorem of it; `Coincide` says that nothing else is
+-- permitted.
 pub mod Grading
-pub mod Steps
-pub mod ReadRoom
-pub mod SolvedLaws
-pub mod GradingLaws
 pub mod Demand1
 pub mod Demand2
 pub mod Demand3
 pub mod Coincide
+-- What the code's private functions come to, and the laws behind it all.
+pub mod Code
+pub mod Laws

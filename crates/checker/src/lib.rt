@@ -1,11 +1,13 @@
 // The one call: grade a text into a lent answer.
 use frames::Outcome;
+use frames::layout::ANSWER_LENGTH;
 ghost use mathlib.Core.Path.{_≡_};
 ghost use mathlib.Core.Bool.{true};
 ghost use lib.ListN.{length};
+ghost use Rattle.frames.specs.Layout.{answerLength};
 ghost use Rattle.solver.specs.Room.{hasRoom};
 ghost use Rattle.checker.specs.Grading.{verdictOf, answerOf};
-ghost use Rattle.checker.specs.Steps.{solvedVerdict, solvedBytes};
+ghost use Rattle.checker.specs.Code.Steps.{solvedVerdict, solvedBytes};
 
 // What a text comes to. Refusals 3 to 6 give their line, from 1.
 pub enum Verdict {
@@ -29,11 +31,11 @@ pub enum Verdict {
 
 // The answer's bytes, from the lowest tables.
 fn fill(answer: &mut [u8], grades: &[u8])
-    requires { ⌜ (length (now answer) ≡ 1024) × (length (now grades) ≡ 1024) ⌝ }
+    requires { ⌜ (length (now answer) ≡ answerLength) × (length (now grades) ≡ answerLength) ⌝ }
     ensures { λ _. ⌜ now (answer .exit) ≡ now (grades .entry) ⌝ }
 {
     let mut i = 0;
-    while i < 1024 {
+    while i < ANSWER_LENGTH {
         answer[i] = grades[i];
         i = i + 1;
     }
@@ -41,14 +43,14 @@ fn fill(answer: &mut [u8], grades: &[u8])
 
 // The verdict over tables that were read, and the answer. No text gives tables that the engine has no room for.
 fn solved(tables: &[u8], answer: &mut [u8]) -> Verdict
-    requires { ⌜ (length (now answer) ≡ 1024) × (hasRoom (now tables) ≡ true) ⌝ }
+    requires { ⌜ (length (now answer) ≡ answerLength) × (hasRoom (now tables) ≡ true) ⌝ }
     ensures { λ r. ⌜ r ≡ solvedVerdict (now (tables .entry)) ⌝ }
     ensures { λ _. ⌜ now (answer .exit) ≡ solvedBytes (now (tables .entry)) (now (answer .entry)) ⌝ }
 {
     let solution = solver::solve(tables);
-    let verdict = solution.verdict;
-    match verdict {
-        solver::Verdict::Met => {
+    let finding = solution.finding;
+    match finding {
+        solver::Finding::Met => {
             let grades = solution.grades;
             fill(answer, &grades);
             Verdict::Accepted {
@@ -56,7 +58,7 @@ fn solved(tables: &[u8], answer: &mut [u8]) -> Verdict
                 rounds: solution.rounds,
             }
         }
-        solver::Verdict::Broken {
+        solver::Finding::Broken {
             method,
             kind,
             node,
@@ -67,7 +69,7 @@ fn solved(tables: &[u8], answer: &mut [u8]) -> Verdict
             node,
             set,
         },
-        solver::Verdict::NoRoom => Verdict::Overlong,
+        solver::Finding::NoRoom => Verdict::Overlong,
     }
 }
 
@@ -77,7 +79,7 @@ pub fn grade(text: &[u8], answer: &mut [u8]) -> Verdict
     ensures { λ r. ⌜ r ≡ verdictOf (now (text .entry)) (length (now (answer .entry))) ⌝ }
     ensures { λ _. ⌜ now (answer .exit) ≡ answerOf (now (text .entry)) (now (answer .entry)) ⌝ }
 {
-    if answer.len() != 1024 {
+    if answer.len() != ANSWER_LENGTH {
         return Verdict::WrongLength;
     }
     let checked = frames::read(text);

@@ -1,3 +1,3 @@
 -- The record that a call from another language gets.
 pub mod Record
-pub mod RecordLaws
+pub mod Laws

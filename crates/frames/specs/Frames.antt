@@ -6,7 +6,7 @@ use mathlib.Core.List.{List, []}
 use lib.Dec.{ltb, eqb}
 use lib.ListN.{getD}
 use Rattle.frames.specs.Layout.{layout}
-use Rattle.frames.specs.Lines.{bytes, frameLength}
+use Rattle.lines.specs.Lines.{bytes, frameLength}
 use Rattle.frames.specs.declared.Due.{Due}
 use Rattle.frames.specs.declared.Due.the-variants.{Header, Field, Method, Node, End}
 

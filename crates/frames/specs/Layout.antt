@@ -1,6 +1,6 @@
--- Every number of the frames' layout, in one value; the other definitions cite it by name.
+-- Every number of the frames' layout, in one value, and what is made of them; the other definitions cite them by name.
 -- Assumes nothing.
-use Prim.Native.Nat.{ℕ}
+use Prim.Native.Nat.{ℕ, _*_}
 
 pub record Layout : Type 0 where
   -- the first byte of a frame, its kind
@@ -96,3 +96,11 @@ layout =
       stride = 21;
       mostFrames = 1153;
     }
+
+-- how many bytes the checked tables have
+abbrev pub tablesLength : ℕ
+tablesLength = layout .mostFrames * layout .stride
+
+-- "The lent answer holds 1,024 bytes": an entry for each grade of each method
+abbrev pub answerLength : ℕ
+answerLength = layout .mostMethods * layout .grades

@@ -6,11 +6,11 @@ use mathlib.Core.List.{List, [], _∷_}
 use lib.Dec.{leb, ltb, eqb}
 use lib.ListN.{take}
 use Rattle.frames.specs.Layout.{layout}
-use Rattle.frames.specs.Lists.{every, member}
 use Rattle.frames.specs.Frames.{Frame, Frames, two, methodsIn, fieldsIn, nodesIn, fieldFrame, methodFrame, firstMethod, firstNode}
 use Rattle.frames.specs.Ranges.{childrenListed, usesField}
 use Rattle.frames.specs.declared.Due.{Due}
 use Rattle.frames.specs.declared.Due.the-variants.{Header, Field, Method, Node, End}
+use Rattle.counting.specs.Counting.{every, member}
 
 abbrev pub nodeCount : Frames → ℕ → ℕ
 nodeCount f m = two (methodFrame f m) (layout .countAt)

@@ -6,10 +6,10 @@ use mathlib.Core.List.{[], _∷_}
 use lib.Dec.{leb, ltb, eqb}
 use lib.ListN.{getD}
 use Rattle.frames.specs.Layout.{layout}
-use Rattle.frames.specs.Lists.{every}
 use Rattle.frames.specs.Frames.{Frame, Frames, two, firstMethod}
 use Rattle.frames.specs.declared.Due.{Due}
 use Rattle.frames.specs.declared.Due.the-variants.{Header, Field, Method, Node, End}
+use Rattle.counting.specs.Counting.{every}
 
 abbrev pub between : ℕ → ℕ → ℕ → Bool
 between low high x = leb low x && leb x high

@@ -5,14 +5,13 @@ use mathlib.Core.Bool.{cond}
 use mathlib.Core.List.{List, []}
 use lib.Dec.{ltb}
 use lib.ListN.{length, getD, drop}
-use Rattle.frames.specs.Layout.{layout}
-use Rattle.frames.specs.Lists.{zeros}
-use Rattle.frames.specs.Lines.{lines, wellFormed, lineLength}
+use Rattle.frames.specs.Layout.{layout, tablesLength}
+use Rattle.lines.specs.Lines.{lines, wellFormed}
 use Rattle.frames.specs.Frames.{Frames, framesOf, due, placed}
 use Rattle.frames.specs.Ranges.{inRange}
 use Rattle.frames.specs.Links.{linked}
-use Rattle.frames.specs.Tables.{tableOf, room}
-use Rattle.frames.specs.declared.Place.{Place}
+use Rattle.frames.specs.Tables.{tableOf}
+use Rattle.lines.specs.declared.Place.{Place}
 use Rattle.frames.specs.declared.Tables.{Tables}
 use Rattle.frames.specs.declared.Checked.{Checked}
 use Rattle.frames.specs.declared.Outcome.{Outcome}
@@ -21,13 +20,7 @@ use Rattle.frames.specs.declared.Due.{Due}
 use Rattle.frames.specs.declared.Due.the-variants.{Header, Field, Method, Node, End}
 use Rattle.frames.specs.declared.Fault.{Fault}
 use Rattle.frames.specs.declared.Fault.the-variants.{Sound, Malformed, Misplaced, OutOfRange, Unlinked}
-
--- the place after the line that stands at a place; at the end of the text the place stays. The largest line number stays too.
-unfoldable pub pastLine : List ℕ → Place → Place
-pastLine t p =
-    cond (ltb (p .at) (length t))
-    (record { at = p .at + lineLength (drop (p .at) t); line = min (p .line + 1) (2 ^ 64 - 1) })
-    p
+use Rattle.counting.specs.Counting.{zeros}
 
 -- "in each line 3, 4, 5, 6": the lowest refusal of a line l that is read as frame i, where d is due; f has the frames of all lines
 unfoldable pub faultOf : Frames → Due → ℕ → List ℕ → Fault
@@ -99,7 +92,7 @@ outcomeOf Unlinked i = Outcome.Unlinked (i + 1)
 
 -- no tables: all 0
 unfoldable pub noTables : Tables
-noTables = record { bytes = zeros room }
+noTables = record { bytes = zeros tablesLength }
 
 -- the tables that lines give: their frames, or none where reading stopped at a fault
 abbrev pub tablesOf : Fault → List (List ℕ) → Tables

@@ -10,15 +10,15 @@ use native.Mathlib.Nat.{le-refl}
 use lib.Dec.{leb}
 use lib.ListN.{getD}
 use borrow.Author.Tests.{le-leb, lt-leb}
-use Rattle.frames.specs.Lines.{bytes}
+use Rattle.lines.specs.Lines.{bytes}
 use Rattle.frames.specs.Frames.{Frame, Frames, framesOf, due, methodsIn, methodFrame, firstMethod, firstNode}
 use Rattle.frames.specs.Links.{linked, methodLinked, nodeLinked, nodeLinkedAt, childrenOf, naming, namedBy, fresh, namesLinked, nodesBefore, ownerUpTo, owner, numberIn}
 use Rattle.frames.specs.Reading.{faultOf, faultAt}
-use Rattle.frames.specs.AgreeLaws.{agree-due, agree-range, agree-fields, agree-methods, agree-method, agree-before, agree-method-linked, agree-names}
-use Rattle.frames.specs.GoingLaws.{which}
-use Rattle.frames.specs.TableLaws.{lt-or-le}
+use Rattle.frames.specs.Laws.Agree.{agree-due, agree-range, agree-fields, agree-methods, agree-method, agree-before, agree-method-linked, agree-names}
+use Rattle.frames.specs.Laws.Going.{which}
 use Rattle.frames.specs.declared.Due.{Due}
 use Rattle.frames.specs.declared.Due.the-variants.{Header, Field, Method, Node, End}
+use Rattle.counting.specs.Laws.Tests.{lt-or-le}
 
 -- a node's method is one of those looked through, and starts no later than the node
 owner-most : (f : Frames) (m a : ℕ) → ownerUpTo f m a ≤ m

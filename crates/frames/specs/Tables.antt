@@ -6,11 +6,11 @@ use mathlib.Core.Bool.{cond, _&&_}
 use mathlib.Core.List.{List}
 use lib.Dec.{ltb, eqb}
 use lib.ListN.{getD}
-use Rattle.frames.specs.Layout.{layout}
-use Rattle.frames.specs.Lists.{tabulate}
+use Rattle.frames.specs.Layout.{layout, tablesLength}
 use Rattle.frames.specs.Program.{Field, Node, Method, Program}
 use Rattle.frames.specs.Frames.{Frame, Frames, two, methodsIn, fieldsIn, fieldFrame, methodFrame, firstNode}
 use Rattle.frames.specs.Links.{nodesBefore, nodeCount}
+use Rattle.counting.specs.Counting.{tabulate}
 
 -- what a call gives for a byte, and for a two-byte number: the number meant, and that it is small
 pub record Byte (r x : ℕ) : Type 0 where
@@ -21,10 +21,6 @@ pub record Wide (r x : ℕ) : Type 0 where
   pub is : r ≡ x
   pub small : r < 65536
 
--- how many bytes the tables have
-abbrev pub room : ℕ
-room = layout .mostFrames * layout .stride
-
 -- byte b of frame j of the tables; 0 for a frame or a byte that they have no room for
 unfoldable pub cell : List ℕ → Frames
 cell t j b =
@@ -32,7 +28,7 @@ cell t j b =
 
 -- the tables that hold these frames
 unfoldable pub tableOf : Frames → List ℕ
-tableOf f = tabulate room (λ p. f (p / layout .stride) (p % layout .stride))
+tableOf f = tabulate tablesLength (λ p. f (p / layout .stride) (p % layout .stride))
 
 -- the field, and the node, that a frame stands for
 abbrev pub fieldOf : Frame → Field

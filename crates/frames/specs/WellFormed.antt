@@ -6,31 +6,13 @@ use mathlib.Core.Bool.{true, false}
 use mathlib.Core.List.{List, [], _∷_}
 use mathlib.Core.Logic.{_⊎_}
 use lib.ListN.{length, getD, take}
-use Rattle.frames.specs.Lists.{member}
 use Rattle.frames.specs.Layout.{layout}
-use Rattle.frames.specs.Program.{Field, Node, Method, Program}
+use Rattle.frames.specs.Program.{Field, Node, Method, Program, fieldAt, methodAt, nodeAt}
 use Rattle.frames.specs.Ranges.{childrenListed, namesListed, usesField, usesMethod}
 use Rattle.frames.specs.Links.{naming, guardUses}
+use Rattle.counting.specs.Counting.{member, total}
 
--- the parts of a program by number; past the end a field, a node or a method with nothing in it
-abbrev pub noField : Field
-noField = record { width = 0; guard = 0 }
-
-abbrev pub noNode : Node
-noNode = record { op = 0; X = 0; Y = 0; Z = 0; U = 0; names = [] }
-
-abbrev pub noMethod : Method
-noMethod = record { k = 0; declared = false; table = []; nodes = [] }
-
-abbrev pub fieldAt : Program → ℕ → Field
-fieldAt p i = getD (p .fields) i noField
-
-abbrev pub methodAt : Program → ℕ → Method
-methodAt p m = getD (p .methods) m noMethod
-
-abbrev pub nodeAt : Method → ℕ → Node
-nodeAt M n = getD (M .nodes) n noNode
-
+-- a name that a node lists, by number
 abbrev pub nameAt : Node → ℕ → ℕ
 nameAt nd j = getD (nd .names) j 0
 
@@ -48,40 +30,35 @@ abbrev pub Once : List ℕ → Type 0
 Once [] = Unit {0}
 Once (x ∷ xs) = (member x xs ≡ false) × Once xs
 
--- g 0 + .. + g (n - 1)
-unfoldable pub total : (ℕ → ℕ) → ℕ → ℕ
-total g zero = 0
-total g (suc n) = total g n + g n
-
 -- a name of a method with k names, or FF
 abbrev pub Name : ℕ → ℕ → Type 0
 Name k t = (t < k) ⊎ (t ≡ layout .noName)
 
 pub record FieldFits (fd : Field) : Type 0 where
-  pub width : fd .width ≤ 1
-  pub guard : fd .guard ≤ 3
+  pub width : fd .width ≤ layout .mostWidth
+  pub guard : fd .guard ≤ layout .mostGuard
 
 -- method m: main has no lock names; a table has an entry for each held set
 pub record MethodFits (m : ℕ) (M : Method) : Type 0 where
-  pub names : M .k ≤ 4
+  pub names : M .k ≤ layout .mostNames
   pub main : m ≡ 0 → M .k ≡ 0
   pub someNodes : 1 ≤ length (M .nodes)
-  pub fewNodes : length (M .nodes) ≤ 1024
+  pub fewNodes : length (M .nodes) ≤ layout .mostNodes
   pub entries : length (M .table) ≡ 2 ^ M .k
-  pub grades : (h : ℕ) → getD (M .table) h 0 ≤ 4
+  pub grades : (h : ℕ) → getD (M .table) h 0 ≤ layout .mostGrade
   pub undeclared : M .declared ≡ false → (h : ℕ) → getD (M .table) h 0 ≡ 0
 
 -- node n of a method with k names
 pub record NodeFits (p : Program) (k n : ℕ) (nd : Node) : Type 0 where
-  pub op : nd .op ≤ 9
-  pub names : length (nd .names) ≡ 4
+  pub op : nd .op ≤ layout .mostOp
+  pub names : length (nd .names) ≡ layout .names
   pub below : (c : ℕ) → member c (childrenIn nd) ≡ true → c < n
   pub field : usesField (nd .op) ≡ true → nd .U < length (p .fields)
   pub method : usesMethod (nd .op) ≡ true → nd .U < length (p .methods)
   pub guarded : usesField (nd .op) ≡ true → guardUses (fieldAt p (nd .U) .guard) ≡ true → Name k (nameAt nd 0)
   pub unguarded : usesField (nd .op) ≡ true → guardUses (fieldAt p (nd .U) .guard) ≡ false → nameAt nd 0 ≡ 0
   pub synchronised : nd .op ≡ 6 → nameAt nd 0 < k
-  pub call : nd .op ≡ 8 → (j : ℕ) → j < 4 → j < methodAt p (nd .U) .k → Name k (nameAt nd j)
+  pub call : nd .op ≡ 8 → (j : ℕ) → j < layout .names → j < methodAt p (nd .U) .k → Name k (nameAt nd j)
   pub spare : nd .op ≡ 8 → (j : ℕ) → methodAt p (nd .U) .k ≤ j → nameAt nd j ≡ 0
   pub fork : nd .op ≡ 9 → 1 ≤ methodAt p (nd .U) .k
   -- "Operands that an op doesn't list are 00."
@@ -93,9 +70,9 @@ pub record NodeFits (p : Program) (k n : ℕ) (nd : Node) : Type 0 where
 
 pub record WellFormed (p : Program) : Type 0 where
   pub someMethods : 1 ≤ length (p .methods)
-  pub fewMethods : length (p .methods) ≤ 64
-  pub fewFields : length (p .fields) ≤ 64
-  pub fewNodes : total (λ m. length (methodAt p m .nodes)) (length (p .methods)) ≤ 1024
+  pub fewMethods : length (p .methods) ≤ layout .mostMethods
+  pub fewFields : length (p .fields) ≤ layout .mostFields
+  pub fewNodes : total (length (p .methods)) (λ m. length (methodAt p m .nodes)) ≤ layout .mostNodes
   pub fields : (i : ℕ) → i < length (p .fields) → FieldFits (fieldAt p i)
   pub methods : (m : ℕ) → m < length (p .methods) → MethodFits m (methodAt p m)
   pub nodes : (m n : ℕ) → m < length (p .methods) → n < length (methodAt p m .nodes)

@@ -2,11 +2,12 @@
 use crate::layout::COUNT_AT;
 use crate::layout::DECLARED_AT;
 use crate::layout::FIELDS_AT;
-use crate::layout::FRAMES;
+use crate::layout::GRADES;
 use crate::layout::GRADES_AT;
 use crate::layout::GUARD_AT;
 use crate::layout::K_AT;
 use crate::layout::METHODS_AT;
+use crate::layout::MOST_FRAMES;
 use crate::layout::NAMES;
 use crate::layout::NAMES_AT;
 use crate::layout::NODES_AT;
@@ -29,7 +30,7 @@ ghost use Rattle.frames.specs.Tables.{cell, fieldOf, methodOf, nodeOf, f
 pub fn cell(tables: &[u8], j: usize, b: usize) -> usize
     ensures { λ r. ⌜ Byte r (cell (now (tables .entry)) j b) ⌝ }
 {
-    if FRAMES <= j {
+    if MOST_FRAMES <= j {
         return 0;
     }
     if STRIDE <= b {
@@ -72,7 +73,7 @@ pub fn nodes(tables: &[u8]) -> usize
 fn field_cell(tables: &[u8], i: usize, b: usize) -> usize
     ensures { λ r. ⌜ Byte r (fieldFrame (cell (now (tables .entry))) i b) ⌝ }
 {
-    if FRAMES <= i {
+    if MOST_FRAMES <= i {
         return 0;
     }
     cell(tables, 1 + i, b)
@@ -82,7 +83,7 @@ fn field_cell(tables: &[u8], i: usize, b: usize) -> usize
 fn method_cell(tables: &[u8], m: usize, b: usize) -> usize
     ensures { λ r. ⌜ Byte r (methodFrame (cell (now (tables .entry))) m b) ⌝ }
 {
-    if FRAMES <= m {
+    if MOST_FRAMES <= m {
         return 0;
     }
     cell(tables, 1 + fields(tables) + m, b)
@@ -112,7 +113,7 @@ pub fn declared(tables: &[u8], m: usize) -> bool
     method_cell(tables, m, DECLARED_AT) == 1
 }
 
-// How many held sets k names have, up to the 16 that a method frame has room for.
+// How many held sets k names have, up to the grades that a method frame has room for.
 pub fn entries(k: usize) -> usize
     ensures { λ r. ⌜ r ≡ min (2 ^ k) (layout .grades) ⌝ }
 {
@@ -121,7 +122,7 @@ pub fn entries(k: usize) -> usize
         1 => 2,
         2 => 4,
         3 => 8,
-        _ => 16,
+        _ => GRADES,
     }
 }
 
@@ -160,8 +161,8 @@ pub fn first_frame(tables: &[u8], m: usize) -> usize
     ensures { λ r. ⌜ r ≡ firstFrame (cell (now (tables .entry))) m ⌝ }
 {
     let start = 1 + fields(tables) + methods(tables);
-    if FRAMES < m {
-        return start + nodes_before(tables, FRAMES);
+    if MOST_FRAMES < m {
+        return start + nodes_before(tables, MOST_FRAMES);
     }
     start + nodes_before(tables, m)
 }

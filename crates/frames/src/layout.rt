@@ -1,83 +1,88 @@
 // Every number of the frames' layout (document 01, "Frames"); the definitions have them in `layout` of specs/Layout.antt.
 
 // The first byte of a frame, its kind, and how many bytes it has.
-pub(crate) const HEADER_KIND: u8 = 1;
+pub const HEADER_KIND: usize = 1;
 
-pub(crate) const FIELD_KIND: u8 = 2;
+pub const FIELD_KIND: usize = 2;
 
-pub(crate) const METHOD_KIND: u8 = 4;
+pub const METHOD_KIND: usize = 4;
 
-pub(crate) const NODE_KIND: u8 = 3;
+pub const NODE_KIND: usize = 3;
 
-pub(crate) const HEADER_LENGTH: usize = 5;
+pub const HEADER_LENGTH: usize = 5;
 
-pub(crate) const FIELD_LENGTH: usize = 3;
+pub const FIELD_LENGTH: usize = 3;
 
-pub(crate) const METHOD_LENGTH: usize = 21;
+pub const METHOD_LENGTH: usize = 21;
 
-pub(crate) const NODE_LENGTH: usize = 13;
+pub const NODE_LENGTH: usize = 13;
 
 // The greatest numbers.
-pub(crate) const MOST_METHODS: usize = 64;
+pub const MOST_METHODS: usize = 64;
 
-pub(crate) const MOST_FIELDS: usize = 64;
+pub const MOST_FIELDS: usize = 64;
 
-pub(crate) const MOST_NODES: usize = 1024;
+pub const MOST_NODES: usize = 1024;
 
-pub(crate) const MOST_NAMES: usize = 4;
+pub const MOST_NAMES: usize = 4;
 
-pub(crate) const MOST_WIDTH: usize = 1;
+pub const MOST_WIDTH: usize = 1;
 
-pub(crate) const MOST_GUARD: usize = 3;
+pub const MOST_GUARD: usize = 3;
 
-pub(crate) const MOST_DECLARED: usize = 1;
+pub const MOST_DECLARED: usize = 1;
 
-pub(crate) const MOST_GRADE: usize = 4;
+pub const MOST_GRADE: usize = 4;
 
-pub(crate) const MOST_OP: usize = 9;
+pub const MOST_OP: usize = 9;
 
-pub(crate) const MOST_TEXT: usize = 32768;
+pub const MOST_TEXT: usize = 32768;
 
 // How many grades a method frame has, and how many names a node frame.
-pub(crate) const GRADES: usize = 16;
+pub const GRADES: usize = 16;
 
-pub(crate) const NAMES: usize = 4;
+pub const NAMES: usize = 4;
 
 // Where the bytes stand in a header, a field, a method and a node.
-pub(crate) const METHODS_AT: usize = 1;
+pub const METHODS_AT: usize = 1;
 
-pub(crate) const FIELDS_AT: usize = 2;
+pub const FIELDS_AT: usize = 2;
 
-pub(crate) const NODES_AT: usize = 3;
+pub const NODES_AT: usize = 3;
 
-pub(crate) const WIDTH_AT: usize = 1;
+pub const WIDTH_AT: usize = 1;
 
-pub(crate) const GUARD_AT: usize = 2;
+pub const GUARD_AT: usize = 2;
 
-pub(crate) const K_AT: usize = 1;
+pub const K_AT: usize = 1;
 
-pub(crate) const COUNT_AT: usize = 2;
+pub const COUNT_AT: usize = 2;
 
-pub(crate) const DECLARED_AT: usize = 4;
+pub const DECLARED_AT: usize = 4;
 
-pub(crate) const GRADES_AT: usize = 5;
+pub const GRADES_AT: usize = 5;
 
-pub(crate) const OP_AT: usize = 1;
+pub const OP_AT: usize = 1;
 
-pub(crate) const X_AT: usize = 2;
+pub const X_AT: usize = 2;
 
-pub(crate) const Y_AT: usize = 4;
+pub const Y_AT: usize = 4;
 
-pub(crate) const Z_AT: usize = 6;
+pub const Z_AT: usize = 6;
 
-pub(crate) const U_AT: usize = 8;
+pub const U_AT: usize = 8;
 
-pub(crate) const NAMES_AT: usize = 9;
+pub const NAMES_AT: usize = 9;
 
 // A name that the caller does not have.
-pub(crate) const NO_NAME: usize = 255;
+pub const NO_NAME: usize = 255;
 
-// The tables: how many bytes a frame takes, and how many frames there are.
-pub(crate) const STRIDE: usize = 21;
+// The tables: how many bytes a frame takes, how many frames there are, and how many bytes that is.
+pub const STRIDE: usize = 21;
 
-pub(crate) const FRAMES: usize = 1153;
+pub const MOST_FRAMES: usize = 1153;
+
+pub const TABLES_LENGTH: usize = MOST_FRAMES * STRIDE;
+
+// The lent answer: an entry for each grade of each method.
+pub const ANSWER_LENGTH: usize = MOST_METHODS * GRADES;

@@ -1,20 +1,16 @@
 // Frames: from any text to checked tables (document 01, "Frames" and "Refusal numbers").
 mod accessors;
-mod layout;
-mod lines;
+pub mod layout;
 mod links;
 mod ranges;
 mod reading;
 
-// A place in a text: how many bytes stand before it, and the number of its line, from 1.
-pub struct Place {
-    pub at: usize,
-    pub line: usize,
-}
+use layout::TABLES_LENGTH;
+use lines::Place;
 
-// The checked tables: the frames of a text, each at the same stride of 21 bytes; the header is frame 0.
+// The checked tables: the frames of a text, each at the same stride; the header is frame 0.
 pub struct Tables {
-    pub bytes: [u8; 24213],
+    pub bytes: [u8; TABLES_LENGTH],
 }
 
 // What reading a text comes to; a refusal for a line gives the line, from 1.
@@ -82,7 +78,6 @@ pub use accessors::nodes;
 pub use accessors::op;
 pub use accessors::used;
 pub use accessors::width;
-pub use lines::frame_length;
 pub use ranges::children_listed;
 pub use reading::line;
 pub use reading::number;

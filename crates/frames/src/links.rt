@@ -25,20 +25,10 @@ ghost use mathlib.Core.List.{[], _∷_};
 ghost use Prim.Native.Nat.{_≤_, _<_, _-_};
 ghost use lib.ListN.{length};
 ghost use Rattle.frames.specs.Layout.{layout};
-ghost use Rattle.frames.specs.Lists.{every};
 ghost use Rattle.frames.specs.Tables.{cell};
-ghost use Rattle.frames.specs.Links.{
-  childrenOf,
-  nameOrNone,
-  guardUses,
-  accessLinked,
-  callNameLinked,
-  callLinked,
-  forkLinked,
-  namesLinked,
-  methodLinked,
-};
-ghost use Rattle.frames.specs.Marks.{Named, Linked};
+ghost use Rattle.frames.specs.Links.{childrenOf, nameOrNone, guardUses, accessLinked, callNameLinked, callLinked, forkLinked, namesLinked, methodLinked};
+ghost use Rattle.frames.specs.Code.Marks.{Named, Linked};
+ghost use Rattle.counting.specs.Counting.{every};
 
 // The child c of node `number`, if the op lists it: whether it is below its node and not yet named. It is named from now on.
 fn name_child(named: &mut [u8], number: usize, listed: bool, c: usize) -> bool

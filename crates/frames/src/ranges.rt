@@ -34,28 +34,14 @@ ghost use mathlib.Core.Path.{_≡_};
 ghost use mathlib.Core.Bool.{cond, _||_};
 ghost use Prim.Native.Nat.{_<_, min};
 ghost use Rattle.frames.specs.Layout.{layout};
-ghost use Rattle.frames.specs.Lists.{every};
 ghost use Rattle.frames.specs.Tables.{cell};
-ghost use Rattle.frames.specs.Ranges.{
-  headerInRange,
-  fieldInRange,
-  gradesListed,
-  gradeInRange,
-  methodInRange,
-  childrenListed,
-  namesListed,
-  usesField,
-  usesMethod,
-  listedOrZero,
-  nameInRange,
-  nodeInRange,
-  inRange,
-};
+ghost use Rattle.frames.specs.Ranges.{headerInRange, fieldInRange, gradesListed, gradeInRange, methodInRange, childrenListed, namesListed, usesField, usesMethod, listedOrZero, nameInRange, nodeInRange, inRange};
+ghost use Rattle.counting.specs.Counting.{every};
 
 // How many of X, Y, Z each op lists, and how many of T0 to T3.
-const CHILDREN_LISTED: [usize; 10] = [0, 1, 2, 2, 3, 2, 1, 1, 1, 1];
+const CHILDREN_LISTED: [usize; MOST_OP + 1] = [0, 1, 2, 2, 3, 2, 1, 1, 1, 1];
 
-const NAMES_LISTED: [usize; 10] = [0, 1, 1, 0, 0, 0, 1, 0, 4, 0];
+const NAMES_LISTED: [usize; MOST_OP + 1] = [0, 1, 1, 0, 0, 0, 1, 0, NAMES, 0];
 
 pub(crate) fn header_in_range(tables: &[u8], j: usize) -> bool
     ensures { λ r. ⌜ r ≡ headerInRange (cell (now (tables .entry)) j) ⌝ }
@@ -93,7 +79,7 @@ pub(crate) fn field_in_range(tables: &[u8], j: usize) -> bool
     true
 }
 
-// How many grades the method in frame j may list, if its k is at most 4.
+// How many grades the method in frame j may list, if its k is in range.
 fn grades_listed(tables: &[u8], j: usize) -> usize
     ensures { λ r. ⌜ r ≡ min (gradesListed (cell (now (tables .entry)) j)) (layout .grades) ⌝ }
 {
@@ -156,7 +142,7 @@ pub(crate) fn method_in_range(tables: &[u8], j: usize, main: bool) -> bool
 pub fn children_listed(op: usize) -> usize
     ensures { λ r. ⌜ r ≡ childrenListed op ⌝ }
 {
-    if 10 <= op {
+    if MOST_OP < op {
         return 0;
     }
     CHILDREN_LISTED[op]
@@ -165,7 +151,7 @@ pub fn children_listed(op: usize) -> usize
 fn names_listed(op: usize) -> usize
     ensures { λ r. ⌜ r ≡ namesListed op ⌝ }
 {
-    if 10 <= op {
+    if MOST_OP < op {
         return 0;
     }
     NAMES_LISTED[op]

@@ -4,7 +4,6 @@ use crate::Due;
 use crate::Fault;
 use crate::OneText;
 use crate::Outcome;
-use crate::Place;
 use crate::Stand;
 use crate::Tables;
 use crate::accessors::fields;
@@ -17,27 +16,32 @@ use crate::layout::HEADER_KIND;
 use crate::layout::HEADER_LENGTH;
 use crate::layout::METHOD_KIND;
 use crate::layout::METHOD_LENGTH;
+use crate::layout::MOST_NODES;
 use crate::layout::MOST_TEXT;
 use crate::layout::NODE_KIND;
 use crate::layout::NODE_LENGTH;
-use crate::lines::frame_length;
-use crate::lines::line_byte;
-use crate::lines::store;
+use crate::layout::STRIDE;
+use crate::layout::TABLES_LENGTH;
 use crate::links::linked;
 use crate::ranges::in_range;
+use lines::Place;
+use lines::frame_length;
+use lines::line_byte;
 ghost use mathlib.Core.Path.{_≡_};
-ghost use Prim.Native.Nat.{_≤_, _<_};
+ghost use Prim.Native.Nat.{_+_, _*_, _≤_, _<_};
 ghost use mathlib.Core.Bool.{cond};
 ghost use lib.Dec.{eqb};
 ghost use lib.ListN.{length, drop};
-ghost use Rattle.frames.specs.Layout.{layout};
-ghost use Rattle.frames.specs.Lists.{zeros};
-ghost use Rattle.frames.specs.Lines.{lines, frameLength};
+ghost use lib.Seq.{paste};
+ghost use Rattle.frames.specs.Layout.{layout, tablesLength};
+ghost use Rattle.lines.specs.Lines.{lines, bytes, frameLength};
 ghost use Rattle.frames.specs.Frames.{due, kindOf, lengthOf, placed};
-ghost use Rattle.frames.specs.Tables.{cell, room};
+ghost use Rattle.frames.specs.Tables.{cell};
 ghost use Rattle.frames.specs.Reading.{outcomeOf, noTables, readText};
 ghost use Rattle.frames.specs.Refusals.{numberOf, lineOf};
-ghost use Rattle.frames.specs.Steps.{Tested, Taken, nextNode, nextStand, isEnd, isSound, isWhole, surplus, lineFrom, OneRead};
+ghost use Rattle.frames.specs.Code.Steps.{Tested, Taken, nextNode, nextStand, isEnd, isSound, isWhole, surplus, OneRead};
+ghost use Rattle.counting.specs.Counting.{zeros};
+ghost use Rattle.lines.specs.Places.{lineFrom};
 
 // The refusal's number in document 01; 0 where the text reads.
 pub fn number(outcome: Outcome) -> u8
@@ -88,7 +92,7 @@ fn due(tables: &[u8], i: usize) -> Due
     Due::End
 }
 
-fn kind_of(due: Due) -> u8
+fn kind_of(due: Due) -> usize
     ensures { λ r. ⌜ r ≡ kindOf due ⌝ }
 {
     match due {
@@ -137,6 +141,19 @@ fn frame_fault(tables: &[u8], named: &mut [u8], due: Due, i: usize, stand: Stand
     Fault::Sound
 }
 
+// The line's bytes, as frame j of the tables.
+fn store(line: &[u8], length: usize, tables: &mut [u8], j: usize)
+    requires { ⌜ (length ≡ frameLength (now line)) × ((j < layout .mostFrames) × (j * layout .stride + length ≤ lib.ListN.length (now tables))) ⌝ }
+    ensures { λ r. ⌜ now (tables .exit) ≡ paste (now (tables .entry)) (j * layout .stride) (bytes (now (line .entry))) length ⌝ }
+{
+    let mut b: usize = 0;
+    while b < length {
+        let x = line_byte(line, b);
+        tables[j * STRIDE + b] = x as u8;
+        b = b + 1;
+    }
+}
+
 // The line is read as frame i.
 fn take_line(
     line: &[u8],
@@ -146,7 +163,7 @@ fn take_line(
     i: usize,
     stand: Stand,
 ) -> Fault
-    requires { ⌜ (i < layout .mostFrames) × ((length (now tables) ≡ room) × (stand .number ≤ length (now named))) ⌝ }
+    requires { ⌜ (i < layout .mostFrames) × ((length (now tables) ≡ tablesLength) × (stand .number ≤ length (now named))) ⌝ }
     ensures { λ r. ⌜ Taken r (now (line .entry)) due (now (tables .entry)) (now (tables .exit)) (now (named .entry)) (now (named .exit)) i (stand .method) (stand .number) ⌝ }
 {
     let length = frame_length(line);
@@ -235,7 +252,7 @@ fn empty() -> Tables
     ensures { λ r. ⌜ r ≡ noTables ⌝ }
 {
     Tables {
-        bytes: [0u8; 24213],
+        bytes: [0u8; TABLES_LENGTH],
     }
 }
 
@@ -251,11 +268,11 @@ fn refused_at(outcome: Outcome, place: Place) -> OneText
 }
 
 // A new method starts with nothing named.
-fn marks_for(named: [u8; 1024], number: usize) -> [u8; 1024]
-    ensures { λ r. ⌜ r ≡ cond (eqb number 0) (zeros 1024) named ⌝ }
+fn marks_for(named: [u8; MOST_NODES], number: usize) -> [u8; MOST_NODES]
+    ensures { λ r. ⌜ r ≡ cond (eqb number 0) (zeros (layout .mostNodes)) named ⌝ }
 {
     if number == 0 {
-        return [0u8; 1024];
+        return [0u8; MOST_NODES];
     }
     named
 }
@@ -264,8 +281,8 @@ fn marks_for(named: [u8; 1024], number: usize) -> [u8; 1024]
 fn read_one(text: &[u8], start: usize) -> OneText
     ensures { λ r. ⌜ OneRead (now (text .entry)) (lines (drop start (now (text .entry)))) r ⌝ }
 {
-    let mut tables = [0u8; 24213];
-    let mut named = [0u8; 1024];
+    let mut tables = [0u8; TABLES_LENGTH];
+    let mut named = [0u8; MOST_NODES];
     let mut place = Place { at: start, line: 1 };
     let mut i: usize = 0;
     let mut stand = Stand {

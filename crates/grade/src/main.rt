@@ -12,7 +12,7 @@ fn print(page: &[u8], count: usize) {
 fn main() {
     let mut text = [0u8; 32769];
     let n = io::read_full(STDIN_FILENO, &mut text);
-    let mut page = [0u8; 2505];
+    let mut page = [0u8; session::LONGEST_SESSION];
     let count = session::session(&text[..n], &mut page);
     print(&page, count);
 }

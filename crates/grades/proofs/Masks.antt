@@ -1,7 +1,7 @@
 -- What the shifts and masks of `src/held.rt` come to, in the words of `HeldSets`.
 -- Assumes nothing.
 use Prim.Native.Nat.{ℕ, zero, suc, _+_, _*_, _/_, _%_, _^_, _<_, max}
-use mathlib.Core.Bool.{Bool, true, false}
+use mathlib.Core.Bool.{Bool, true, false, cond}
 use mathlib.Core.List.{List, [], _∷_}
 use mathlib.Core.Path.{_≡_, refl, sym, ap, ap₂, _∙_, subst}
 use native.Mathlib.Nat.{pow-suc, one-mul, max-zero, mod-lt, mod-eq-of-lt, le-of-suc-le-suc, not-suc-le-zero, le-trans}
@@ -10,8 +10,8 @@ use lib.Bits.{bitAnd, bitOr, and-mask, or-step, or-zero-r}
 use lib.Dec.{eqb}
 use lib.ListN.{length, getD, take}
 use lib.Pow.{pow-pos, pow-lt, pow-mono}
-use Rattle.grades.specs.HeldSets.{held, pickSet, add, calleeSet}
-use Rattle.grades.specs.HeldLaws.{none-held, from-halves, add-zero-half, add-zero-odd, add-suc-half, add-suc-odd, add-free, bit-before}
+use Rattle.grades.specs.HeldSets.{held, add, calleeSet}
+use Rattle.grades.specs.Laws.HeldSets.{none-held, from-halves, add-zero-half, add-zero-odd, add-suc-half, add-suc-odd, add-free, bit-before}
 
 -- the lowest bit of a shifted set
 pub shifted-bit : (H j : ℕ) → eqb (bitAnd (H / 2 ^ j) 1) 1 ≡ held H j
@@ -39,24 +39,24 @@ or-bit H (suc l) =
 
 -- one name more: the callee's set has its bit where the caller holds that name
 pub callee-more : (H : ℕ) (names : List ℕ) (j d : ℕ) → j < length names
-    → calleeSet H (take (suc j) names) ≡ pickSet (held H (getD names j d)) (add (calleeSet H (take j names)) j) (calleeSet H (take j names))
+    → calleeSet H (take (suc j) names) ≡ cond (held H (getD names j d)) (add (calleeSet H (take j names)) j) (calleeSet H (take j names))
 unfolding calleeSet
 callee-more H [] j d h = absurd (not-suc-le-zero h)
 callee-more H (t ∷ names) zero d h = first (held H t)
   where
-    first : (b : Bool) → pickSet b 1 0 + 0 * 2 ≡ pickSet b (add 0 0) 0
+    first : (b : Bool) → cond b 1 0 + 0 * 2 ≡ cond b (add 0 0) 0
     first true = sym (add-free 0 0 (none-held 0))
     first false = refl
 callee-more H (t ∷ names) (suc j) d h =
-    ap (λ (n : ℕ). pickSet (held H t) 1 0 + n * 2) (callee-more H names j d (le-of-suc-le-suc h))
+    ap (λ (n : ℕ). cond (held H t) 1 0 + n * 2) (callee-more H names j d (le-of-suc-le-suc h))
     ∙ next (held H t) (held H (getD names j d)) (calleeSet H (take j names))
   where
-    bit-set : (b : Bool) (n : ℕ) → pickSet b 1 0 + add n j * 2 ≡ add (pickSet b 1 0 + n * 2) (suc j)
+    bit-set : (b : Bool) (n : ℕ) → cond b 1 0 + add n j * 2 ≡ add (cond b 1 0 + n * 2) (suc j)
     bit-set b n =
-        from-halves (pickSet b 1 0 + add n j * 2) (add (pickSet b 1 0 + n * 2) (suc j))
-        (bit-before b (add n j) .0 ∙ ap (λ (m : ℕ). add m j) (sym (bit-before b n .0)) ∙ sym (add-suc-half (pickSet b 1 0 + n * 2) j))
-        (bit-before b (add n j) .1 ∙ sym (bit-before b n .1) ∙ sym (add-suc-odd (pickSet b 1 0 + n * 2) j))
+        from-halves (cond b 1 0 + add n j * 2) (add (cond b 1 0 + n * 2) (suc j))
+        (bit-before b (add n j) .0 ∙ ap (λ (m : ℕ). add m j) (sym (bit-before b n .0)) ∙ sym (add-suc-half (cond b 1 0 + n * 2) j))
+        (bit-before b (add n j) .1 ∙ sym (bit-before b n .1) ∙ sym (add-suc-odd (cond b 1 0 + n * 2) j))
 
-    next : (b a : Bool) (n : ℕ) → pickSet b 1 0 + pickSet a (add n j) n * 2 ≡ pickSet a (add (pickSet b 1 0 + n * 2) (suc j)) (pickSet b 1 0 + n * 2)
+    next : (b a : Bool) (n : ℕ) → cond b 1 0 + cond a (add n j) n * 2 ≡ cond a (add (cond b 1 0 + n * 2) (suc j)) (cond b 1 0 + n * 2)
     next b true n = bit-set b n
     next b false n = refl

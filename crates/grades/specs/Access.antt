@@ -1,7 +1,7 @@
 -- What an access of a field costs, by the field's width and guard, read or write, and whether the lock is held.
 -- Assumes nothing.
 use Prim.Native.Nat.{ℕ}
-use mathlib.Core.Bool.{Bool, true, false}
+use mathlib.Core.Bool.{Bool, true, false, cond}
 use mathlib.Core.List.{[], _∷_}
 use lib.ListN.{getD}
 use Rattle.grades.specs.Grades.{const, mover, atomic, cmpd, error}
@@ -11,11 +11,6 @@ use Rattle.grades.specs.Grades.{const, mover, atomic, cmpd, error}
 unfoldable pub unprotected : ℕ → ℕ
 unprotected w = getD (atomic ∷ cmpd ∷ []) w cmpd
 
--- the first grade if the lock is held, else the second
-abbrev pub ifHeld : Bool → ℕ → ℕ → ℕ
-ifHeld true held free = held
-ifHeld false held free = free
-
 -- the grade that goes with the guard: 0 final, 1 guarded, 2 write-guarded, 3 none. A guard that the paper does not have permits
 -- nothing: error.
 abbrev pub byGuard : (guard final guarded writeGuarded none : ℕ) → ℕ
@@ -23,15 +18,15 @@ byGuard guard final guarded writeGuarded none = getD (final ∷ guarded ∷ writ
 
 -- "Guarded: 1 if the lock is held, else 4, read and write alike"
 unfoldable pub guarded : Bool → ℕ
-guarded held = ifHeld held mover error
+guarded held = cond held mover error
 
 -- "final field, read 0"; "Write-guarded: read 1 if held, else the unprotected grade"; "No guard: the unprotected grade"
 unfoldable pub readAccess : ℕ → ℕ → Bool → ℕ
-readAccess w g held = byGuard g const (guarded held) (ifHeld held mover (unprotected w)) (unprotected w)
+readAccess w g held = byGuard g const (guarded held) (cond held mover (unprotected w)) (unprotected w)
 
 -- "final field, .. write 4"; "Write-guarded: .. write the unprotected grade if held, else 4"; "No guard: the unprotected grade"
 unfoldable pub writeAccess : ℕ → ℕ → Bool → ℕ
-writeAccess w g held = byGuard g error (guarded held) (ifHeld held (unprotected w) error) (unprotected w)
+writeAccess w g held = byGuard g error (guarded held) (cond held (unprotected w) error) (unprotected w)
 
 -- an access of a field of width w under guard g; `write` tells a write from a read
 unfoldable pub access : ℕ → ℕ → Bool → Bool → ℕ

@@ -2,7 +2,7 @@
 -- names a method may have.
 -- Assumes nothing.
 use Prim.Native.Nat.{ℕ, _+_, _*_, _/_, _%_, _^_}
-use mathlib.Core.Bool.{Bool, true, false}
+use mathlib.Core.Bool.{Bool, cond}
 use mathlib.Core.List.{List, [], _∷_}
 use lib.Dec.{T, eqb, ltb}
 
@@ -22,19 +22,15 @@ held H j = eqb (H / 2 ^ j % 2) 1
 abbrev pub Within : ℕ → ℕ → Type 0
 Within H H′ = (j : ℕ) → T (held H j) → T (held H′ j)
 
-abbrev pub pickSet : Bool → ℕ → ℕ → ℕ
-pickSet true a b = a
-pickSet false a b = b
-
 -- H with name l added
 unfoldable pub add : ℕ → ℕ → ℕ
 unfolding held
-add H l = pickSet (held H l) H (H + 2 ^ l)
+add H l = cond (held H l) H (H + 2 ^ l)
 
 -- the same in a mask of w bits: a name that the mask has no bit for is not added
 unfoldable pub addWithin : ℕ → ℕ → ℕ → ℕ
 unfolding add
-addWithin w H l = pickSet (ltb l w) (add H l) H
+addWithin w H l = cond (ltb l w) (add H l) H
 
 -- FF: "the caller has no constant name for that lock; such a lock counts as not held"
 abbrev pub noName : ℕ
@@ -45,4 +41,4 @@ noName = 0xFF
 unfoldable pub calleeSet : ℕ → List ℕ → ℕ
 unfolding held
 calleeSet H [] = 0
-calleeSet H (t ∷ names) = pickSet (held H t) 1 0 + calleeSet H names * 2
+calleeSet H (t ∷ names) = cond (held H t) 1 0 + calleeSet H names * 2

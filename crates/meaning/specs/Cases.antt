@@ -9,11 +9,11 @@ use Rattle.grades.specs.Grades.{cap, composition, compose, join, closure, asser
 use Rattle.grades.specs.Access.{unprotected, guarded, readAccess, writeAccess, access}
 use Rattle.grades.specs.HeldSets.{entries, held, add, noName, calleeSet}
 use Rattle.grades.specs.Cases.{ArithmeticCases, arithmetic-cases}
-use Rattle.frames.specs.Program.{Field, Node, Method, Program}
-use Rattle.meaning.specs.Meaning.{noField, plainNode, noMethod, fieldAt, methodAt, body, rootOf, opOf, children, firstName, fieldAccess, matching, largest, calleeEntry, parts, whole, nodeGrade, below, meaning, rootTable}
-use Rattle.meaning.specs.Counting.{first, upTo}
+use Rattle.frames.specs.Program.{Field, Node, Method, Program, noField, plainNode, noMethod, fieldAt, methodAt, nodeAt}
+use Rattle.meaning.specs.Meaning.{rootOf, opOf, children, firstName, fieldAccess, matching, largest, calleeEntry, parts, whole, nodeGrade, below, meaning, rootTable}
+use Rattle.counting.specs.Counting.{every, first, upTo}
 use Rattle.meaning.specs.Lowest.{methodCount, entryCount, isEntry, onEntries, start, round, after, same, settled, openEntries, roundsFrom, lowestFrom, isDeclared, declaredTable, declarations, rounds, lowest}
-use Rattle.meaning.specs.Constraints.{declaredRoot, mainTable, forkedTable, namedMethod, forkAt, forksOf, closedOf, closedOfAll, closed, brokenSet, isBroken, firstBroken, verdict, accepted, refused, tablesOf, answer}
+use Rattle.meaning.specs.Constraints.{declaredRoot, mainTable, forkedTable, namedMethod, forkAt, forksOf, closedOf, closedOfAll, closed, brokenSet, isBroken, firstBroken, finding, accepted, refused, tablesOf, answer}
 
 -- ---- nodes and methods as the cases write them
 
@@ -90,10 +90,10 @@ pub record ProvedCases : Type 0 where
 pub proved-cases : ProvedCases
 unfolding
     cap composition compose join closure assertAtomic lockTaken unprotected guarded readAccess writeAccess access entries held add calleeSet
-    noField plainNode noMethod fieldAt methodAt body rootOf opOf children firstName fieldAccess matching largest calleeEntry parts
-    whole nodeGrade below meaning rootTable first methodCount entryCount isEntry onEntries start round after same settled openEntries
+    noField plainNode noMethod fieldAt methodAt nodeAt rootOf opOf children firstName fieldAccess matching largest calleeEntry parts
+    whole nodeGrade below meaning rootTable every first methodCount entryCount isEntry onEntries start round after same settled openEntries
     roundsFrom lowestFrom isDeclared declaredTable declarations rounds lowest namedMethod forkAt forksOf closedOf closedOfAll closed
-    brokenSet isBroken firstBroken verdict tablesOf answer
+    brokenSet isBroken firstBroken finding tablesOf answer
 proved-cases =
     record {
       arithmetic = arithmetic-cases;
@@ -213,10 +213,10 @@ pub record WorkedCases : Type 0 where
 pub worked-cases : WorkedCases
 unfolding
     cap composition compose join closure assertAtomic lockTaken unprotected guarded readAccess writeAccess access entries held add calleeSet
-    noField plainNode noMethod fieldAt methodAt body rootOf opOf children firstName fieldAccess matching largest calleeEntry parts
-    whole nodeGrade below meaning rootTable first methodCount entryCount isEntry onEntries start round after same settled openEntries
+    noField plainNode noMethod fieldAt methodAt nodeAt rootOf opOf children firstName fieldAccess matching largest calleeEntry parts
+    whole nodeGrade below meaning rootTable every first methodCount entryCount isEntry onEntries start round after same settled openEntries
     roundsFrom lowestFrom isDeclared declaredTable declarations rounds lowest namedMethod forkAt forksOf closedOf closedOfAll closed
-    brokenSet isBroken firstBroken verdict tablesOf answer
+    brokenSet isBroken firstBroken finding tablesOf answer
 worked-cases =
     record {
       session-accepted = refl;

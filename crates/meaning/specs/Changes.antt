@@ -7,8 +7,8 @@ use mathlib.Core.Path.{_≡_}
 use lib.Dec.{T}
 use lib.ListN.{getD}
 use Rattle.grades.specs.HeldSets.{Within}
-use Rattle.frames.specs.Program.{Method, Program}
-use Rattle.meaning.specs.Meaning.{Assignment, methodAt}
+use Rattle.frames.specs.Program.{Method, Program, methodAt}
+use Rattle.meaning.specs.Meaning.{Assignment}
 use Rattle.meaning.specs.Lowest.{methodCount, entryCount, isDeclared, declaredTable}
 use Rattle.meaning.specs.Constraints.{Entry}
 

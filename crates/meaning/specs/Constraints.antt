@@ -1,17 +1,16 @@
 -- The constraints, and what is answered: document 01's "Constraints and the answer".
 -- Assumes nothing.
 use Prim.Native.Nat.{ℕ, _≤_, _<_}
-use mathlib.Core.Bool.{Bool, true, false, not, cond}
+use mathlib.Core.Bool.{Bool, true, false, not, cond, _||_}
 use mathlib.Core.List.{List, [], _∷_, _++_, map}
 use mathlib.Core.Path.{_≡_}
 use lib.Dec.{T, leb, ltb, eqb}
 use lib.ListN.{length, getD}
 use Rattle.grades.specs.Grades.{const, cmpd}
 use Rattle.grades.specs.HeldSets.{held}
-use Rattle.grades.specs.Everywhere.{either}
-use Rattle.frames.specs.Program.{Program}
-use Rattle.meaning.specs.Meaning.{Assignment, Op, plainValue, read, write, sequence, choice, loop, synchronised, assertion, call, fork, noOp, opOf, methodAt, body, rootTable}
-use Rattle.meaning.specs.Counting.{first, upTo, together, onlyIf, All}
+use Rattle.frames.specs.Program.{Program, methodAt, nodeAt}
+use Rattle.meaning.specs.Meaning.{Assignment, Op, plainValue, read, write, sequence, choice, loop, synchronised, assertion, call, fork, noOp, opOf, rootTable}
+use Rattle.counting.specs.Counting.{first, upTo, together, onlyIf, All}
 use Rattle.meaning.specs.Lowest.{NoWorse, methodCount, entryCount, isDeclared, declaredTable, rounds, lowest}
 
 -- ---- the constraints of declared and undeclared methods
@@ -53,7 +52,7 @@ nodeOf (forkedTable m n) = n
 
 -- the method that node n of method m names
 unfoldable pub namedMethod : Program → (m n : ℕ) → ℕ
-namedMethod p m n = body (methodAt p m) n .U
+namedMethod p m n = nodeAt (methodAt p m) n .U
 
 -- how many held sets a constraint speaks of, from none held on
 abbrev pub setsOf : Program → Closed → ℕ
@@ -66,7 +65,7 @@ setsOf p (forkedTable m n) = entryCount p (namedMethod p m n)
 abbrev pub holdsAt : Program → Assignment → Closed → (H : ℕ) → Bool
 holdsAt p a (declaredRoot m) H = leb (rootTable p a m H) (declaredTable p m H)
 holdsAt p a mainTable H = leb (a 0 H) cmpd
-holdsAt p a (forkedTable m n) H = either (not (held H 0)) (leb (a (namedMethod p m n) H) cmpd)
+holdsAt p a (forkedTable m n) H = not (held H 0) || leb (a (namedMethod p m n) H) cmpd
 
 abbrev pub Met : Program → Assignment → Closed → Type 0
 Met p a c = (H : ℕ) → H < setsOf p c → T (holdsAt p a c H)
@@ -87,7 +86,7 @@ isFork fork = true
 isFork noOp = false
 
 unfoldable pub forkAt : Program → (m n : ℕ) → Bool
-forkAt p m n = isFork (opOf (body (methodAt p m) n .op))
+forkAt p m n = isFork (opOf (nodeAt (methodAt p m) n .op))
 
 -- "each fork node in node order". It "counts even if no node names it".
 unfoldable pub forksOf : Program → (m : ℕ) → List Closed
@@ -118,20 +117,20 @@ brokenSet p a c = first (setsOf p c) (λ H. not (holdsAt p a c H))
 unfoldable pub isBroken : Program → Assignment → Closed → Bool
 isBroken p a c = ltb (brokenSet p a c) (setsOf p c)
 
-pub data Verdict : Type 0 where
-  noneBroken : Verdict
-  broken : (c : Closed) (set : ℕ) → Verdict
+pub data Finding : Type 0 where
+  noneBroken : Finding
+  broken : (c : Closed) (set : ℕ) → Finding
 
 -- the first broken constraint of a list
-unfoldable pub firstBroken : Program → Assignment → List Closed → Verdict
+unfoldable pub firstBroken : Program → Assignment → List Closed → Finding
 firstBroken p a [] = noneBroken
 firstBroken p a (c ∷ cs) =
     let later = firstBroken p a cs in
     cond (isBroken p a c) (broken c (brokenSet p a c)) later
 
--- the verdict over some methods' constraints
-unfoldable pub verdict : Program → Assignment → (methods : List ℕ) → Verdict
-verdict p a methods = firstBroken p a (closedOfAll p methods)
+-- the finding over some methods' constraints
+unfoldable pub finding : Program → Assignment → (methods : List ℕ) → Finding
+finding p a methods = firstBroken p a (closedOfAll p methods)
 
 -- accepted, with the rounds and each method's table; or refusal 7, with the method, kind, fork node and held set that it gives
 pub data Answer : Type 0 where
@@ -146,12 +145,12 @@ tablesOf p a = map (λ m. map (a m) (upTo (entryCount p m))) (upTo (methodCount 
 unfoldable pub entryOf : List (List ℕ) → Assignment
 entryOf tables m H = getD (getD tables m []) H const
 
-abbrev pub answerBy : Program → Verdict → Answer
+abbrev pub answerBy : Program → Finding → Answer
 answerBy p noneBroken = accepted (rounds p) (tablesOf p (lowest p))
 answerBy p (broken c H) = refused (methodOf c) (kindOf c) (nodeOf c) H
 
 unfoldable pub answer : Program → Answer
-answer p = answerBy p (verdict p (lowest p) (upTo (methodCount p)))
+answer p = answerBy p (finding p (lowest p) (upTo (methodCount p)))
 
 -- ---- what a refusal names
 

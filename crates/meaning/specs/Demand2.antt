@@ -13,9 +13,9 @@ use Rattle.frames.specs.Program.{Program}
 use Rattle.meaning.specs.Meaning.{Assignment}
 use Rattle.meaning.specs.Lowest.{NoWorse, methodCount, entryCount, after, openEntries, declarations, rounds, lowest}
 use Rattle.meaning.specs.Constraints.{Closed, methodOf, kindOf, nodeOf, closed, Satisfies, Answer, accepted, refused, tablesOf, entryOf, answer, IsLowest, FirstBroken}
-use Rattle.meaning.specs.ConstraintLaws.{lowest-is}
-use Rattle.meaning.specs.RoundsLaws.{lowest-after, rounds-stop, rounds-change, rounds-within}
-use Rattle.meaning.specs.VerdictLaws.{tables-length, table-length, tables-of-entries, tables-lowest, one-lowest, refused-by, when-accepted, when-refused, not-both, either-answer, lowest-satisfies, satisfied-accepted}
+use Rattle.meaning.specs.Laws.Constraints.{lowest-is}
+use Rattle.meaning.specs.Laws.Rounds.{lowest-after, rounds-stop, rounds-change, rounds-within}
+use Rattle.meaning.specs.Laws.Answers.{tables-length, table-length, tables-of-entries, tables-lowest, one-lowest, refused-by, when-accepted, when-refused, not-both, either-answer, lowest-satisfies, satisfied-accepted}
 
 -- ---- the statement
 

@@ -11,11 +11,11 @@ use Rattle.frames.specs.Program.{Program}
 use Rattle.meaning.specs.Meaning.{Assignment}
 use Rattle.meaning.specs.Lowest.{NoWorse, methodCount, isDeclared, declaredTable, rounds, lowest}
 use Rattle.meaning.specs.Constraints.{accepted, tablesOf, entryOf, answer, IsLowest}
-use Rattle.meaning.specs.ConstraintLaws.{lowest-is}
-use Rattle.meaning.specs.VerdictLaws.{tables-lowest, one-lowest, when-accepted, lowest-satisfies, satisfied-accepted}
+use Rattle.meaning.specs.Laws.Constraints.{lowest-is}
+use Rattle.meaning.specs.Laws.Answers.{tables-lowest, one-lowest, when-accepted, lowest-satisfies, satisfied-accepted}
 use Rattle.meaning.specs.Changes.{StruckOut, WrittenBack, AntitoneAt}
-use Rattle.meaning.specs.DeclarationLaws.{alike-tables}
-use Rattle.meaning.specs.ChangeLaws.{lowest-antitone, struck-satisfies, written-satisfies, written-lowest}
+use Rattle.meaning.specs.Laws.Declarations.{alike-tables}
+use Rattle.meaning.specs.Laws.Changes.{lowest-antitone, struck-satisfies, written-satisfies, written-lowest}
 
 -- ---- the statement
 
@@ -24,7 +24,7 @@ abbrev pub DeclaredAntitone : Program → Type 0
 DeclaredAntitone p = (m : ℕ) → m < methodCount p → T (isDeclared p m) → AntitoneAt p (declaredTable p) m
 
 -- (a), of an accepted program's tables, and of a refused one's lowest tables as well
-pub record HeldSets (p : Program) : Type 0 where
+pub record FallingGrades (p : Program) : Type 0 where
   pub accepted : (r : ℕ) (tables : List (List ℕ)) → answer p ≡ accepted r tables → (m : ℕ) → AntitoneAt p (entryOf tables) m
   pub lowest : (a : Assignment) → IsLowest p a → (m : ℕ) → AntitoneAt p a m
 
@@ -41,7 +41,7 @@ pub record WritingBack (q : Program) (tables : List (List ℕ)) : Type 0 where
   pub says : answer q ≡ accepted rounds tables
 
 pub record Demand3 (p : Program) : Type 0 where
-  pub held-sets : DeclaredAntitone p → HeldSets p
+  pub held-sets : DeclaredAntitone p → FallingGrades p
   pub striking-out : (r : ℕ) (tables : List (List ℕ)) → answer p ≡ accepted r tables
       → (q : Program) → StruckOut p q → StrikingOut q tables
   pub writing-back : (r : ℕ) (tables : List (List ℕ)) → answer p ≡ accepted r tables
@@ -52,7 +52,7 @@ pub record Demand3 (p : Program) : Type 0 where
 found-lowest : (p : Program) (r : ℕ) (t : List (List ℕ)) → answer p ≡ accepted r t → entryOf t ≡ lowest p
 found-lowest p r t e = ap entryOf (when-accepted p r t e .tables) ∙ tables-lowest p
 
-held-sets-law : (p : Program) → DeclaredAntitone p → HeldSets p
+held-sets-law : (p : Program) → DeclaredAntitone p → FallingGrades p
 held-sets-law p h =
     record {
       accepted = λ r t e m. subst (λ (a : Assignment). AntitoneAt p a m) (sym (found-lowest p r t e)) (lowest-antitone p h m);

@@ -3,16 +3,15 @@
 -- and no floor.
 -- Assumes nothing.
 use Prim.Native.Nat.{ℕ, zero, suc, _*_, _≤_}
-use mathlib.Core.Bool.{Bool, not}
+use mathlib.Core.Bool.{Bool, not, _&&_, cond}
 use mathlib.Core.Path.{_≡_}
 use lib.Dec.{T, eqb, ltb}
 use lib.ListN.{length, getD}
 use Rattle.grades.specs.Grades.{const, cap, join}
 use Rattle.grades.specs.HeldSets.{entries}
-use Rattle.grades.specs.Everywhere.{both, everywhere}
-use Rattle.frames.specs.Program.{Program}
-use Rattle.meaning.specs.Meaning.{Assignment, choose, methodAt, rootTable}
-use Rattle.meaning.specs.Counting.{first, total}
+use Rattle.frames.specs.Program.{Program, methodAt}
+use Rattle.meaning.specs.Meaning.{Assignment, rootTable}
+use Rattle.counting.specs.Counting.{every, first, total}
 
 -- "One table is no worse than another if it is no larger at every entry": of whole assignments
 abbrev pub NoWorse : Assignment → Assignment → Type 0
@@ -28,11 +27,11 @@ unfoldable pub entryCount : Program → (m : ℕ) → ℕ
 entryCount p m = entries (methodAt p m .k)
 
 unfoldable pub isEntry : Program → (m H : ℕ) → Bool
-isEntry p m H = both (ltb m (methodCount p)) (ltb H (entryCount p m))
+isEntry p m H = ltb m (methodCount p) && ltb H (entryCount p m)
 
 -- the tables alone: 0 at every number that is no method's, or no set's
 unfoldable pub onEntries : Program → Assignment → Assignment
-onEntries p a m H = choose (isEntry p m H) (a m H) const
+onEntries p a m H = cond (isEntry p m H) (a m H) const
 
 -- ---- what is given
 
@@ -52,12 +51,12 @@ pub record Keeps (p : Program) (g : Givens) (a : Assignment) : Type 0 where
 
 -- the fixed tables, and the floor of all others
 unfoldable pub start : Program → Givens → Assignment
-start p g = onEntries p (λ m H. choose (g .fixed m) (g .tables m H) (cap (g .floor m H)))
+start p g = onEntries p (λ m H. cond (g .fixed m) (g .tables m H) (cap (g .floor m H)))
 
 -- "One round gives every undeclared method its root's table, all worked out from the tables before the round." A root below the floor
 -- gives the floor.
 unfoldable pub round : Program → Givens → Assignment → Assignment
-round p g a = onEntries p (λ m H. choose (g .fixed m) (g .tables m H) (join (g .floor m H) (rootTable p a m H)))
+round p g a = onEntries p (λ m H. cond (g .fixed m) (g .tables m H) (join (g .floor m H) (rootTable p a m H)))
 
 -- the tables after n rounds
 unfoldable pub after : Program → Givens → ℕ → Assignment
@@ -66,7 +65,7 @@ after p g (suc n) = round p g (after p g n)
 
 -- two assignments have the same tables
 unfoldable pub same : Program → Assignment → Assignment → Bool
-same p a b = everywhere (methodCount p) (λ m. everywhere (entryCount p m) (λ H. eqb (a m H) (b m H)))
+same p a b = every (methodCount p) (λ m. every (entryCount p m) (λ H. eqb (a m H) (b m H)))
 
 -- round n+1 changes nothing
 unfoldable pub settled : Program → Givens → ℕ → Bool
@@ -74,7 +73,7 @@ settled p g n = same p (after p g n) (round p g (after p g n))
 
 -- "the number of entries of undeclared methods"
 unfoldable pub openEntries : Program → Givens → ℕ
-openEntries p g = total (methodCount p) (λ m. choose (g .fixed m) 0 (entryCount p m))
+openEntries p g = total (methodCount p) (λ m. cond (g .fixed m) 0 (entryCount p m))
 
 -- "Rounds is the least n such that round n+1 changes nothing. It is at most 4 times the number of entries of undeclared methods": that such
 -- an n is found by then is proved.

@@ -2,46 +2,18 @@
 -- or methods a text has room for.
 -- Assumes nothing.
 use Prim.Native.Nat.{ℕ, zero, suc, pred, max}
-use mathlib.Core.Bool.{Bool, true, false, not}
+use mathlib.Core.Bool.{Bool, true, false, not, cond}
 use mathlib.Core.List.{List, [], _∷_, _++_, map}
 use lib.Dec.{eqb}
 use lib.ListN.{length, getD, take}
 use Rattle.grades.specs.Grades.{const, atomic, error, compose, join, closure, assertAtomic, lockTaken}
 use Rattle.grades.specs.Access.{access}
 use Rattle.grades.specs.HeldSets.{held, add, noName, calleeSet}
-use Rattle.frames.specs.Program.{Field, Node, Method, Program}
+use Rattle.frames.specs.Program.{Field, Node, Method, Program, fieldAt, methodAt, nodeAt}
 
 -- "An assignment gives each method a table": of a method and a held set, a grade
 abbrev pub Assignment : Type 0
 Assignment = ℕ → ℕ → ℕ
-
-abbrev pub choose : Bool → ℕ → ℕ → ℕ
-choose true a b = a
-choose false a b = b
-
--- ---- what a program has at a number; a number that it has nothing at has a stand-in
-
--- a field that the program lacks permits nothing: no guard has number 4, so each access is error
-unfoldable pub noField : Field
-noField = record { width = 1; guard = 4 }
-
--- a node that the method lacks is a plain value
-unfoldable pub plainNode : Node
-plainNode = record { op = 0; X = 0; Y = 0; Z = 0; U = 0; names = [] }
-
--- a method that the program lacks has no name, no declaration and no node
-unfoldable pub noMethod : Method
-noMethod = record { k = 0; declared = false; table = []; nodes = [] }
-
-unfoldable pub fieldAt : Program → ℕ → Field
-fieldAt p u = getD (p .fields) u noField
-
-unfoldable pub methodAt : Program → ℕ → Method
-methodAt p m = getD (p .methods) m noMethod
-
--- a method's nodes by number
-unfoldable pub body : Method → ℕ → Node
-body method n = getD (method .nodes) n plainNode
 
 -- "a method's last node is its root"
 unfoldable pub rootOf : Method → ℕ
@@ -157,7 +129,7 @@ rule write newly X Y access = compose (compose X Y) access
 rule sequence newly X Y _ = compose X Y
 rule choice newly X Y Z = compose X (join Y Z)
 rule loop newly X Y _ = compose X (closure (compose Y X))
-rule synchronised newly X _ _ = choose newly (lockTaken X) X
+rule synchronised newly X _ _ = cond newly (lockTaken X) X
 rule assertion newly X _ _ = assertAtomic X
 rule call newly X entry _ = compose X entry
 rule fork newly X two _ = compose X two
@@ -179,7 +151,7 @@ below p a nodes zero m H = const
 below p a nodes (suc n) m H =
     let here = nodeGrade p a (below p a nodes n) (nodes n) H in
     let lower = below p a nodes n m H in
-    choose (eqb m n) here lower
+    cond (eqb m n) here lower
 
 -- "The meaning of a node is defined by its children, down to nodes without any, for given tables of all methods."
 unfoldable pub meaning : Program → Assignment → (nodes : ℕ → Node) → (n H : ℕ) → ℕ
@@ -187,4 +159,4 @@ meaning p a nodes n H = nodeGrade p a (below p a nodes n) (nodes n) H
 
 -- method m's root table: its root's grade under each held set
 unfoldable pub rootTable : Program → Assignment → (m H : ℕ) → ℕ
-rootTable p a m H = meaning p a (body (methodAt p m)) (rootOf (methodAt p m)) H
+rootTable p a m H = meaning p a (nodeAt (methodAt p m)) (rootOf (methodAt p m)) H

@@ -6,10 +6,10 @@ use mathlib.Core.Logic.{_⊎_, inl, inr}
 use mathlib.Core.Path.{_≡_, refl, sym, subst}
 use native.Mathlib.Omega.{arith}
 use lib.ListN.{length, getD, List·getD-eq-default}
-use Rattle.frames.specs.Program.{Node, Method, Program}
-use Rattle.meaning.specs.Meaning.{Assignment, plainNode, body, rootOf, opOf, children, meaning}
-use Rattle.meaning.specs.Tree.{Among, InTree, itself, inside}
-use Rattle.meaning.specs.MeaningLaws.{meaning-tree}
+use Rattle.frames.specs.Program.{Node, Method, Program, plainNode, nodeAt}
+use Rattle.meaning.specs.Meaning.{Assignment, rootOf, opOf, children, meaning}
+use Rattle.meaning.specs.Laws.Tree.{Among, InTree, itself, inside}
+use Rattle.meaning.specs.Laws.Meaning.{meaning-tree}
 
 -- node i names node j as a child
 abbrev pub Names : (nodes : ℕ → Node) → (i j : ℕ) → Type 0
@@ -69,8 +69,8 @@ unnamed-no-effect p a nodes nodes′ once n u root unnamed other same =
     (λ j s. record { node = same j (apart nodes once n u j root unnamed other s); callee = λ c S l. refl })
 
 -- where children are below their nodes, nothing names a method's root
-pub root-unnamed : (method : Method) → ((i c : ℕ) → Names (body method) i c → c < i) → Unnamed (body method) (rootOf method)
-unfolding body rootOf
+pub root-unnamed : (method : Method) → ((i c : ℕ) → Names (nodeAt method) i c → c < i) → Unnamed (nodeAt method) (rootOf method)
+unfolding nodeAt rootOf
 root-unnamed method lower i m =
     let past : getD (method .nodes) i plainNode ≡ plainNode =
     List·getD-eq-default (method .nodes) plainNode (after (length (method .nodes)) (lower i (pred (length (method .nodes))) m)) in

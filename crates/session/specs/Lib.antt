@@ -1,8 +1,7 @@
--- What the grading program prints for a text.
+-- What the grading program prints for a text: `Writing` (a frame as a line), `Session`, `Page` (bytes put into a buffer); `SessionFacts` says what holds of
+-- every session.
 pub mod Writing
-pub mod WritingLaws
-pub mod Page
-pub mod PageLaws
 pub mod Session
-pub mod SessionLaws
+pub mod Page
 pub mod SessionFacts
+pub mod Laws

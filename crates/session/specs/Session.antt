@@ -1,11 +1,11 @@
 -- Document 01's "One whole session": what the grading program prints for a text.
 -- Assumes nothing.
-use Prim.Native.Nat.{ℕ, zero, suc, _*_, _^_}
+use Prim.Native.Nat.{ℕ, zero, suc, _+_, _*_, _^_}
 use mathlib.Core.List.{List, [], _∷_, _++_}
 use lib.ListN.{take, drop, replicate}
-use Rattle.frames.specs.Program.{Program}
-use Rattle.frames.specs.WellFormed.{methodAt}
-use Rattle.checker.specs.Grading.{answerLength, programRead, verdictOf, answerOf, Numbers, numbersOf}
+use Rattle.frames.specs.Layout.{layout, answerLength}
+use Rattle.frames.specs.Program.{Program, methodAt}
+use Rattle.checker.specs.Grading.{programRead, verdictOf, answerOf, Numbers, numbersOf}
 use Rattle.checker.specs.declared.Verdict.{Verdict}
 use Rattle.checker.specs.declared.Verdict.the-variants.{Accepted, WrongLength, Overlong, Malformed, Misplaced, OutOfRange, Unlinked, Broken}
 use Rattle.session.specs.Writing.{lineOf, high, low}
@@ -16,7 +16,7 @@ answerFrame methods rounds = 0x10 ∷ methods ∷ high rounds ∷ low rounds ∷
 
 -- the grades of method m in an answer, one for each of its 2^k entries: "entry number h of method m at 16m + h"
 unfoldable pub gradesOf : (answer : List ℕ) (m k : ℕ) → List ℕ
-gradesOf answer m k = take (2 ^ k) (drop (16 * m) answer)
+gradesOf answer m k = take (2 ^ k) (drop (layout .grades * m) answer)
 
 -- "a frame for each method (11, number, k, grades)"
 unfoldable pub methodFrame : (answer : List ℕ) (m k : ℕ) → List ℕ
@@ -46,3 +46,16 @@ sessionBy (Broken method kind node set) p answer = lineOf (refusalFrame (numbers
 -- the program lends an answer of the right length, all 0, so that refusal 1 is never printed
 unfoldable pub sessionOf : (text : List ℕ) → List ℕ
 sessionOf text = sessionBy (verdictOf text answerLength) (programRead text) (answerOf text (replicate answerLength 0))
+
+-- ---- how long it can be
+
+-- a method's frame has three bytes and its grades; a line two digits a byte, and its 0A
+abbrev pub longestFrame : ℕ
+longestFrame = 3 + layout .grades
+
+abbrev pub longestMethod : ℕ
+longestMethod = 2 * longestFrame + 1
+
+-- the answer's line, of four bytes, and one for each method
+abbrev pub longestSession : ℕ
+longestSession = 2 * 4 + 1 + layout .mostMethods * longestMethod

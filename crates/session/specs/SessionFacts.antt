@@ -11,34 +11,34 @@ use lib.Dec.{eqb}
 use lib.Pow.{pow-mono}
 use lib.ListN.{length, getD, take, drop, length-drop, replicate, length-replicate, List·getD-eq-default}
 use lib.Seq.{length-take-le, getD-take, getD-drop, ext-getD}
-use Rattle.frames.specs.Program.{Program, Method}
-use Rattle.frames.specs.Lines.{lines, joined, newline}
+use Rattle.frames.specs.Layout.{layout, answerLength}
+use Rattle.frames.specs.Program.{Program, Method, methodAt, noMethod}
+use Rattle.lines.specs.Lines.{lines, joined, newline}
 use Rattle.frames.specs.Tables.{programOf}
-use Rattle.frames.specs.TableLaws.{lt-or-le}
-use Rattle.frames.specs.Read.{tables-stand, read-well-formed, read-exactly}
+use Rattle.frames.specs.Promises.{tables-stand, read-well-formed, read-exactly}
 use Rattle.frames.specs.Reading.{readText}
-use Rattle.frames.specs.WellFormed.{WellFormed, methodAt}
+use Rattle.frames.specs.WellFormed.{WellFormed}
 use Rattle.frames.specs.declared.Checked.{Checked}
 use Rattle.frames.specs.declared.Fault.{Fault}
 use Rattle.frames.specs.declared.Outcome.the-variants as Outcome
 use Rattle.grades.specs.HeldSets.{entries}
 use Rattle.meaning.specs.Lowest.{methodCount, entryCount, isDeclared, rounds, lowest}
 use Rattle.meaning.specs.Constraints.{Closed, declaredRoot, mainTable, forkedTable, methodOf, kindOf, nodeOf, setsOf, forkAt, forksOf, closedOf, closedOfAll, closed, namedMethod, Answer, accepted, refused, answer, entryOf}
-use Rattle.meaning.specs.VerdictLaws.{when-accepted, when-refused, table-length}
-use Rattle.meaning.specs.Meaning as Meaning
-use Rattle.meaning.specs.Counting.{All, upTo, onlyIf}
-use Rattle.meaning.specs.CountingLaws.{all-append, all-right, all-together, all-upTo, all-onlyIf}
+use Rattle.meaning.specs.Laws.Answers.{when-accepted, when-refused, table-length}
+use Rattle.counting.specs.Counting.{All, upTo, onlyIf}
+use Rattle.counting.specs.Laws.Counting.{all-append, all-right, all-together, all-upTo, all-onlyIf}
 use Rattle.solver.specs.Flat.{flat}
-use Rattle.solver.specs.Room.{room-fits}
-use Rattle.solver.specs.RoundLaws.{rounds-few}
-use Rattle.solver.specs.FlatLaws.{flat-entry, flat-length}
-use Rattle.checker.specs.Grading.{answerLength, programRead, verdictOf, answerOf, bytesByAnswer, Numbers, lineRefused, numbersOf}
-use Rattle.checker.specs.GradingLaws.{right-bytes, read-room}
-use Rattle.checker.specs.Demand1.{Sound, Faulty, Case, demand-1}
+use Rattle.solver.specs.Laws.Room.{room-fits}
+use Rattle.solver.specs.Laws.Rounds.{rounds-few}
+use Rattle.solver.specs.Laws.Flat.{flat-entry, flat-length}
+use Rattle.checker.specs.Grading.{programRead, verdictOf, answerOf, bytesByAnswer, Numbers, lineRefused, numbersOf}
+use Rattle.checker.specs.Laws.Grading.{right-bytes, read-room}
+use Rattle.checker.specs.Demand1.{Gradable, Faulty, Case, demand-1}
 use Rattle.checker.specs.declared.Verdict.{Verdict}
 use Rattle.checker.specs.declared.Verdict.the-variants.{Accepted, WrongLength, Overlong, Malformed, Misplaced, OutOfRange, Unlinked, Broken}
 use Rattle.session.specs.Page.{printed}
 use Rattle.session.specs.Session.{gradesOf, sessionOf}
+use Rattle.counting.specs.Laws.Tests.{lt-or-le}
 
 -- ---- one outcome
 
@@ -58,20 +58,20 @@ pub session-grades : (text old : List ℕ) (rounds : ℕ) (tables : List (List �
     → length old ≡ answerLength → readText text .outcome ≡ Outcome.Whole → answer (programRead text) ≡ accepted rounds tables
     → m < methodCount (programRead text)
     → gradesOf (answerOf text old) m (methodAt (programRead text) m .k) ≡ getD tables m []
-unfolding gradesOf methodCount entryCount entries Meaning.methodAt Meaning.noMethod entryOf
+unfolding gradesOf methodCount entryCount entries methodAt noMethod entryOf
 session-grades text old rounds tables m long whole is l =
     let p = programRead text in
     let w = well-formed-read text whole in
     let k = methodAt p m .k in
-    let few : 2 ^ k ≤ 16 = pow-mono (w .methods m l .names) in
+    let few : 2 ^ k ≤ layout .grades = pow-mono (w .methods m l .names) in
     let bytes : answerOf text old ≡ flat (entryOf tables) = right-bytes text old Outcome.Whole long whole ∙ ap (λ (x : Answer). bytesByAnswer x old) is in
     let size : length (getD tables m []) ≡ 2 ^ k = ap (λ (t : List (List ℕ)). length (getD t m [])) (when-accepted p rounds tables is .tables) ∙ table-length p (lowest p) m l in
-    let here : length (drop (16 * m) (flat (entryOf tables))) ≡ 1024 - 16 * m = length-drop (16 * m) (flat (entryOf tables)) ∙ ap (λ (n : ℕ). n - 16 * m) (flat-length (entryOf tables)) in
-    let taken : length (take (2 ^ k) (drop (16 * m) (flat (entryOf tables)))) ≡ 2 ^ k = length-take-le (2 ^ k) _ (omega (arith, w .fewMethods)) in
-    ap (λ (b : List ℕ). take (2 ^ k) (drop (16 * m) b)) bytes
+    let here : length (drop (layout .grades * m) (flat (entryOf tables))) ≡ answerLength - layout .grades * m = length-drop (layout .grades * m) (flat (entryOf tables)) ∙ ap (λ (n : ℕ). n - layout .grades * m) (flat-length (entryOf tables)) in
+    let taken : length (take (2 ^ k) (drop (layout .grades * m) (flat (entryOf tables)))) ≡ 2 ^ k = length-take-le (2 ^ k) _ (omega (arith, w .fewMethods)) in
+    ap (λ (b : List ℕ). take (2 ^ k) (drop (layout .grades * m) b)) bytes
     ∙ ext-getD 0 _ _ (taken ∙ sym size)
-    (λ h i. getD-take (2 ^ k) (drop (16 * m) (flat (entryOf tables))) h 0 (omega arith)
-    ∙ (getD-drop (16 * m) (flat (entryOf tables)) h 0 ∙ flat-entry (entryOf tables) m h (omega (arith, w .fewMethods)) (omega arith)))
+    (λ h i. getD-take (2 ^ k) (drop (layout .grades * m) (flat (entryOf tables))) h 0 (omega arith)
+    ∙ (getD-drop (layout .grades * m) (flat (entryOf tables)) h 0 ∙ flat-entry (entryOf tables) m h (omega (arith, w .fewMethods)) (omega arith)))
 
 -- ---- the numbers
 
@@ -106,23 +106,23 @@ module _ (text : List ℕ) where
       let few = lines-few text in
       ⊎-elim (λ w. omega (arith, few, f .short, f .follows, w .0)) (λ w. omega (arith, few, f .short, f .follows, w .0)) (f .first .here)
 
-  whole : Sound text answerLength → readText text .outcome ≡ Outcome.Whole
+  whole : Gradable text answerLength → readText text .outcome ≡ Outcome.Whole
   whole s = ap (λ (c : Checked). c .outcome) (read-exactly text (s .short) (s .lines))
 
-  entries-few : WellFormed (programRead text) → (m : ℕ) → entryCount (programRead text) m ≤ 16
-  unfolding entryCount entries Meaning.methodAt Meaning.noMethod
+  entries-few : WellFormed (programRead text) → (m : ℕ) → entryCount (programRead text) m ≤ layout .grades
+  unfolding entryCount entries methodAt noMethod
   entries-few w m =
       ⊎-elim
       (λ (l : m < length (programRead text .methods)). pow-mono (w .methods m l .names))
-      (λ (g : length (programRead text .methods) ≤ m). subst⁻¹ (λ (M : Method). 2 ^ M .k ≤ 16) (List·getD-eq-default (programRead text .methods) _ g) (omega arith))
+      (λ (g : length (programRead text .methods) ≤ m). subst⁻¹ (λ (M : Method). 2 ^ M .k ≤ layout .grades) (List·getD-eq-default (programRead text .methods) _ g) (omega arith))
       (lt-or-le m (length (programRead text .methods)))
 
   -- a closed constraint names a method, a node and sets of the program
   Named : Closed → Type 0
-  Named c = (methodOf c < 256) × (nodeOf c < 65536) × (kindOf c < 256) × (setsOf (programRead text) c ≤ 16)
+  Named c = (methodOf c < 256) × (nodeOf c < 65536) × (kindOf c < 256) × (setsOf (programRead text) c ≤ layout .grades)
 
   all-named : WellFormed (programRead text) → All Named (closed (programRead text))
-  unfolding closed closedOfAll closedOf forksOf Named methodCount Meaning.methodAt Meaning.noMethod
+  unfolding closed closedOfAll closedOf forksOf Named methodCount methodAt noMethod
   all-named w =
       let p = programRead text in
       all-together Named (closedOf p) (upTo (methodCount p))

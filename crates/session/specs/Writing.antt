@@ -5,7 +5,7 @@ use Prim.Native.Nat.{ℕ, _+_, _/_, _%_}
 use mathlib.Core.Bool.{cond}
 use mathlib.Core.List.{List, [], _∷_, _++_}
 use lib.Dec.{ltb}
-use Rattle.frames.specs.Lines.{newline}
+use Rattle.lines.specs.Lines.{newline}
 
 -- the digit 0-9 or A-F that stands for d
 unfoldable pub hexDigit : ℕ → ℕ

@@ -2,16 +2,19 @@
 use crate::writing::end_line;
 use crate::writing::put_bytes;
 use crate::writing::put_line;
+use frames::layout::GRADES;
 ghost use mathlib.Core.Path.{_≡_};
 ghost use Prim.Native.Nat.{_+_, _*_, _≤_, _<_};
 ghost use lib.ListN.{length};
+ghost use Rattle.frames.specs.Layout.{answerLength};
 ghost use Rattle.frames.specs.Tables.{cell, programOf};
-ghost use Rattle.frames.specs.WellFormed.{WellFormed, methodAt};
+ghost use Rattle.frames.specs.WellFormed.{WellFormed};
 ghost use Rattle.checker.specs.Grading.{programRead, verdictOf};
 ghost use Rattle.checker.specs.declared.Verdict.the-variants.{Accepted};
 ghost use Rattle.session.specs.Writing.{lineOf, high, low};
 ghost use Rattle.session.specs.Page.{putAt};
-ghost use Rattle.session.specs.Session.{methodFrame, methodLines, refusalFrame, sessionBy};
+ghost use Rattle.session.specs.Session.{methodFrame, methodLines, refusalFrame, sessionBy, longestMethod, longestSession};
+ghost use Rattle.frames.specs.Program.{methodAt};
 
 // A number's high byte and low byte.
 fn high(n: usize) -> u8
@@ -36,8 +39,8 @@ pub(crate) fn put_refusal(
     set: usize,
     page: &mut [u8],
 ) -> usize
-    requires { ⌜ length (now page) ≡ 2505 ⌝ }
-    ensures { λ r. ⌜ (r ≡ length (lineOf (refusalFrame (record { number = number; line = line; method = method; kind = kind; node = node; set = set; methods = 0; rounds = 0 })))) × (r ≤ 2505) ⌝ }
+    requires { ⌜ length (now page) ≡ longestSession ⌝ }
+    ensures { λ r. ⌜ (r ≡ length (lineOf (refusalFrame (record { number = number; line = line; method = method; kind = kind; node = node; set = set; methods = 0; rounds = 0 })))) × (r ≤ longestSession) ⌝ }
     ensures { λ _. ⌜ now (page .exit) ≡ putAt (now (page .entry)) 0 (lineOf (refusalFrame (record { number = number; line = line; method = method; kind = kind; node = node; set = set; methods = 0; rounds = 0 }))) ⌝ }
 {
     let frame = [
@@ -58,12 +61,12 @@ pub(crate) fn put_refusal(
 fn put_method(tables: &[u8], answer: &[u8], m: usize, page: &mut [u8], at: usize) -> usize
     requires { ⌜ WellFormed (programOf (cell (now tables))) ⌝ }
     requires { ⌜ m < length (programOf (cell (now tables)) .methods) ⌝ }
-    requires { ⌜ (length (now answer) ≡ 1024) × (at + 39 ≤ length (now page)) ⌝ }
-    ensures { λ r. ⌜ (r ≡ at + length (lineOf (methodFrame (now (answer .entry)) m (methodAt (programOf (cell (now (tables .entry)))) m .k)))) × (r ≤ at + 39) ⌝ }
+    requires { ⌜ (length (now answer) ≡ answerLength) × (at + longestMethod ≤ length (now page)) ⌝ }
+    ensures { λ r. ⌜ (r ≡ at + length (lineOf (methodFrame (now (answer .entry)) m (methodAt (programOf (cell (now (tables .entry)))) m .k)))) × (r ≤ at + longestMethod) ⌝ }
     ensures { λ _. ⌜ now (page .exit) ≡ putAt (now (page .entry)) at (lineOf (methodFrame (now (answer .entry)) m (methodAt (programOf (cell (now (tables .entry)))) m .k))) ⌝ }
 {
     let k = frames::k(tables, m);
-    let start = 16 * m;
+    let start = GRADES * m;
     let end = start + frames::entries(k);
     let head = [0x11, low(m), low(k)];
     let grades_at = put_bytes(&head, page, at);
@@ -75,8 +78,8 @@ fn put_method(tables: &[u8], answer: &[u8], m: usize, page: &mut [u8], at: usize
 fn put_methods(tables: &[u8], answer: &[u8], methods: usize, page: &mut [u8], at: usize) -> usize
     requires { ⌜ WellFormed (programOf (cell (now tables))) ⌝ }
     requires { ⌜ methods ≡ length (programOf (cell (now tables)) .methods) ⌝ }
-    requires { ⌜ (length (now answer) ≡ 1024) × (at + 39 * methods ≤ length (now page)) ⌝ }
-    ensures { λ r. ⌜ (r ≡ at + length (methodLines (programOf (cell (now (tables .entry)))) (now (answer .entry)) methods)) × (r ≤ at + 39 * methods) ⌝ }
+    requires { ⌜ (length (now answer) ≡ answerLength) × (at + longestMethod * methods ≤ length (now page)) ⌝ }
+    ensures { λ r. ⌜ (r ≡ at + length (methodLines (programOf (cell (now (tables .entry)))) (now (answer .entry)) methods)) × (r ≤ at + longestMethod * methods) ⌝ }
     ensures { λ _. ⌜ now (page .exit) ≡ putAt (now (page .entry)) at (methodLines (programOf (cell (now (tables .entry)))) (now (answer .entry)) methods) ⌝ }
 {
     let mut place = at;
@@ -92,8 +95,8 @@ fn put_methods(tables: &[u8], answer: &[u8], methods: usize, page: &mut [u8], at
 fn put_answer(tables: &[u8], answer: &[u8], methods: usize, rounds: usize, page: &mut [u8]) -> usize
     requires { ⌜ WellFormed (programOf (cell (now tables))) ⌝ }
     requires { ⌜ methods ≡ length (programOf (cell (now tables)) .methods) ⌝ }
-    requires { ⌜ (length (now answer) ≡ 1024) × (length (now page) ≡ 2505) ⌝ }
-    ensures { λ r. ⌜ (r ≡ length (sessionBy (Accepted methods rounds) (programOf (cell (now (tables .entry)))) (now (answer .entry)))) × (r ≤ 2505) ⌝ }
+    requires { ⌜ (length (now answer) ≡ answerLength) × (length (now page) ≡ longestSession) ⌝ }
+    ensures { λ r. ⌜ (r ≡ length (sessionBy (Accepted methods rounds) (programOf (cell (now (tables .entry)))) (now (answer .entry)))) × (r ≤ longestSession) ⌝ }
     ensures { λ _. ⌜ now (page .exit) ≡ putAt (now (page .entry)) 0 (sessionBy (Accepted methods rounds) (programOf (cell (now (tables .entry)))) (now (answer .entry))) ⌝ }
 {
     let frame = [0x10, low(methods), high(rounds), low(rounds)];
@@ -109,9 +112,9 @@ pub(crate) fn put_accepted(
     rounds: usize,
     page: &mut [u8],
 ) -> usize
-    requires { ⌜ verdictOf (now text) 1024 ≡ Accepted methods rounds ⌝ }
-    requires { ⌜ (length (now answer) ≡ 1024) × (length (now page) ≡ 2505) ⌝ }
-    ensures { λ r. ⌜ (r ≡ length (sessionBy (Accepted methods rounds) (programRead (now (text .entry))) (now (answer .entry)))) × (r ≤ 2505) ⌝ }
+    requires { ⌜ verdictOf (now text) answerLength ≡ Accepted methods rounds ⌝ }
+    requires { ⌜ (length (now answer) ≡ answerLength) × (length (now page) ≡ longestSession) ⌝ }
+    ensures { λ r. ⌜ (r ≡ length (sessionBy (Accepted methods rounds) (programRead (now (text .entry))) (now (answer .entry)))) × (r ≤ longestSession) ⌝ }
     ensures { λ _. ⌜ now (page .exit) ≡ putAt (now (page .entry)) 0 (sessionBy (Accepted methods rounds) (programRead (now (text .entry))) (now (answer .entry))) ⌝ }
 {
     let checked = frames::read(text);

@@ -3,6 +3,9 @@ mod frames_of;
 mod writing;
 
 use checker::Verdict;
+use frames::layout::ANSWER_LENGTH;
+use frames::layout::GRADES;
+use frames::layout::MOST_METHODS;
 use frames_of::put_accepted;
 use frames_of::put_refusal;
 use writing::copy;
@@ -10,15 +13,21 @@ ghost use mathlib.Core.Path.{_≡_};
 ghost use Prim.Native.Nat.{_≤_};
 ghost use lib.ListN.{length};
 ghost use Rattle.session.specs.Page.{putAt, printed};
-ghost use Rattle.session.specs.Session.{sessionOf};
+ghost use Rattle.session.specs.Session.{sessionOf, longestSession};
+
+// The longest line of a method: three bytes and its grades, two digits a byte, and the 0A.
+pub const LONGEST_METHOD: usize = 2 * (3 + GRADES) + 1;
+
+// The longest session: the answer's line, of four bytes, and a line for each method.
+pub const LONGEST_SESSION: usize = 2 * 4 + 1 + MOST_METHODS * LONGEST_METHOD;
 
 // The session at the front of a page that has room for the longest.
 fn print(text: &[u8], page: &mut [u8]) -> usize
-    requires { ⌜ length (now page) ≡ 2505 ⌝ }
-    ensures { λ r. ⌜ (r ≡ length (sessionOf (now (text .entry)))) × (r ≤ 2505) ⌝ }
+    requires { ⌜ length (now page) ≡ longestSession ⌝ }
+    ensures { λ r. ⌜ (r ≡ length (sessionOf (now (text .entry)))) × (r ≤ longestSession) ⌝ }
     ensures { λ _. ⌜ now (page .exit) ≡ putAt (now (page .entry)) 0 (sessionOf (now (text .entry))) ⌝ }
 {
-    let mut answer = [0u8; 1024];
+    let mut answer = [0u8; ANSWER_LENGTH];
     let verdict = checker::grade(text, &mut answer);
     match verdict {
         Verdict::Accepted { methods, rounds } => put_accepted(text, &answer, methods, rounds, page),
@@ -43,7 +52,7 @@ pub fn session(text: &[u8], out: &mut [u8]) -> usize
     ensures { λ r. ⌜ r ≡ length (sessionOf (now (text .entry))) ⌝ }
     ensures { λ _. ⌜ now (out .exit) ≡ printed (sessionOf (now (text .entry))) (now (out .entry)) ⌝ }
 {
-    let mut page = [0u8; 2505];
+    let mut page = [0u8; LONGEST_SESSION];
     let n = print(text, &mut page);
     if out.len() < n {
         return n;

@@ -3,7 +3,7 @@ ghost use mathlib.Core.Path.{_≡_};
 ghost use mathlib.Core.List.{[], _∷_};
 ghost use Prim.Native.Nat.{_+_, _*_, _≤_, _<_};
 ghost use lib.ListN.{length, take};
-ghost use Rattle.frames.specs.Lines.{newline};
+ghost use Rattle.lines.specs.Lines.{newline};
 ghost use Rattle.session.specs.Writing.{hexDigit, digitsOf, lineOf};
 ghost use Rattle.session.specs.Page.{putAt};
 

@@ -1,12 +1,10 @@
 -- What the solver's code works out, in the words of `meaning`.
-pub mod Engine
-pub mod EngineLaws
-pub mod Parts
-pub mod Views
+-- `Solved` says what checked tables come to, of `Flat` (flat tables of grades), `Findings` (the closed constraints) and `Room` (what the engine has
+-- no room for).
 pub mod Flat
-pub mod FlatLaws
-pub mod RoundLaws
-pub mod Verdicts
-pub mod VerdictLaws
+pub mod Findings
 pub mod Room
 pub mod Solved
+-- What the code's private functions come to, and the laws behind it all.
+pub mod Code
+pub mod Laws

@@ -8,16 +8,18 @@ ghost use mathlib.Core.Path.{_≡_};
 ghost use Prim.Native.Nat.{_<_};
 ghost use Rattle.frames.specs.Frames.{methodsIn};
 ghost use Rattle.frames.specs.Tables.{cell};
-ghost use Rattle.meaning.specs.Counting.{upTo};
+ghost use Rattle.counting.specs.Counting.{upTo};
 ghost use Rattle.meaning.specs.Lowest.{entryCount};
-ghost use Rattle.meaning.specs.Constraints.{brokenSet, firstBroken, forksOf, closedOf, verdict, declaredRoot, mainTable};
-ghost use Rattle.solver.specs.Engine.{programIn, nodeIn, tablesIn};
-ghost use Rattle.solver.specs.Flat.{Fits, Starts, At};
-ghost use Rattle.solver.specs.Verdicts.{found, forkSet};
+ghost use Rattle.meaning.specs.Constraints.{brokenSet, firstBroken, forksOf, closedOf, finding, declaredRoot, mainTable};
+ghost use Rattle.solver.specs.Code.Engine.{tablesIn};
+ghost use Rattle.solver.specs.Flat.{programIn, programIn};
+ghost use Rattle.solver.specs.Code.Rounds.{Fits, Starts, At};
+ghost use Rattle.solver.specs.Findings.{found};
+ghost use Rattle.solver.specs.Code.Forks.{forkSet};
 
 // What the constraints come to: all met, or the first that is broken, with its method, kind, fork node and held set; or tables
 // that the engine has no room for.
-pub enum Verdict {
+pub enum Finding {
     NoRoom,
     Met,
     Broken {
@@ -87,7 +89,7 @@ fn fork_broken<'a>(tables: &'a [u8], grades: &'a [u8], u: usize, count: usize) -
 }
 
 // The first broken constraint of a method's forks, in node order.
-fn forks_broken<'a>(tables: &'a [u8], grades: &'a [u8], first: usize, m: usize) -> Verdict
+fn forks_broken<'a>(tables: &'a [u8], grades: &'a [u8], first: usize, m: usize) -> Finding
     requires { ⌜ Fits (now tables) ⌝ }
     requires { ⌜ At (now tables) m first ⌝ }
     ensures { λ r. ⌜ r ≡ found (firstBroken (programIn (now (tables .entry))) (tablesIn (now (grades .entry))) (forksOf (programIn (now (tables .entry))) m)) ⌝ }
@@ -100,7 +102,7 @@ fn forks_broken<'a>(tables: &'a [u8], grades: &'a [u8], first: usize, m: usize) 
             let count = sets_of(tables, u);
             let set = fork_broken(tables, grades, u, count);
             if set < count {
-                return Verdict::Broken {
+                return Finding::Broken {
                     method: m,
                     kind: 3,
                     node: n,
@@ -110,11 +112,11 @@ fn forks_broken<'a>(tables: &'a [u8], grades: &'a [u8], first: usize, m: usize) 
         }
         n = n + 1;
     }
-    Verdict::Met
+    Finding::Met
 }
 
 // The first broken constraint of a method: kind 1 of a declared one, kind 2 of the main, then the forks.
-fn method_broken<'a>(tables: &'a [u8], grades: &'a [u8], first: usize, m: usize) -> Verdict
+fn method_broken<'a>(tables: &'a [u8], grades: &'a [u8], first: usize, m: usize) -> Finding
     requires { ⌜ Fits (now tables) ⌝ }
     requires { ⌜ At (now tables) m first ⌝ }
     ensures { λ r. ⌜ r ≡ found (firstBroken (programIn (now (tables .entry))) (tablesIn (now (grades .entry))) (closedOf (programIn (now (tables .entry))) m)) ⌝ }
@@ -123,7 +125,7 @@ fn method_broken<'a>(tables: &'a [u8], grades: &'a [u8], first: usize, m: usize)
         let count = sets_of(tables, m);
         let set = declared_broken(tables, grades, first, m, count);
         if set < count {
-            return Verdict::Broken {
+            return Finding::Broken {
                 method: m,
                 kind: 1,
                 node: 0,
@@ -133,7 +135,7 @@ fn method_broken<'a>(tables: &'a [u8], grades: &'a [u8], first: usize, m: usize)
     }
     if m == 0 {
         if main_broken(tables, grades) < 1 {
-            return Verdict::Broken {
+            return Finding::Broken {
                 method: 0,
                 kind: 2,
                 node: 0,
@@ -145,19 +147,19 @@ fn method_broken<'a>(tables: &'a [u8], grades: &'a [u8], first: usize, m: usize)
 }
 
 // The first broken constraint of all methods, in their order.
-pub(crate) fn first_broken<'a>(tables: &'a [u8], grades: &'a [u8], starts: &'a [usize]) -> Verdict
+pub(crate) fn first_broken<'a>(tables: &'a [u8], grades: &'a [u8], starts: &'a [usize]) -> Finding
     requires { ⌜ Fits (now tables) ⌝ }
     requires { ⌜ Starts (now tables) (methodsIn (cell (now tables))) (now starts) ⌝ }
-    ensures { λ r. ⌜ r ≡ found (verdict (programIn (now (tables .entry))) (tablesIn (now (grades .entry))) (upTo (methodsIn (cell (now (tables .entry)))))) ⌝ }
+    ensures { λ r. ⌜ r ≡ found (finding (programIn (now (tables .entry))) (tablesIn (now (grades .entry))) (upTo (methodsIn (cell (now (tables .entry)))))) ⌝ }
 {
     let methods = frames::methods(tables);
     let mut m = 0;
     while m < methods {
-        let verdict = method_broken(tables, grades, starts[m], m);
-        let Verdict::Met = verdict else {
-            return verdict;
+        let finding = method_broken(tables, grades, starts[m], m);
+        let Finding::Met = finding else {
+            return finding;
         };
         m = m + 1;
     }
-    Verdict::Met
+    Finding::Met
 }

@@ -5,18 +5,19 @@ mod room;
 mod rounds;
 
 use constraints::first_broken;
+use frames::layout::ANSWER_LENGTH;
 use room::has_room;
 use rounds::lowest_of;
 use rounds::starts_of;
 ghost use mathlib.Core.Path.{_≡_};
 ghost use Rattle.solver.specs.Solved.{solved};
-pub use constraints::Verdict;
+pub use constraints::Finding;
 
 // What checked tables come to. The grades are the lowest, also where they break a constraint.
 pub struct Solved {
-    pub verdict: Verdict,
+    pub finding: Finding,
     pub rounds: usize,
-    pub grades: [u8; 1024],
+    pub grades: [u8; ANSWER_LENGTH],
 }
 
 // The lowest grades of the program that checked tables stand for. Tables that the engine has no room for, as no text gives them,
@@ -26,17 +27,17 @@ pub fn solve(tables: &[u8]) -> Solved
 {
     if !has_room(tables) {
         return Solved {
-            verdict: Verdict::NoRoom,
+            finding: Finding::NoRoom,
             rounds: 0,
-            grades: [0u8; 1024],
+            grades: [0u8; ANSWER_LENGTH],
         };
     }
     let starts = starts_of(tables);
     let lowest = lowest_of(tables, &starts);
     let grades = lowest.grades;
-    let verdict = first_broken(tables, &grades, &starts);
+    let finding = first_broken(tables, &grades, &starts);
     Solved {
-        verdict,
+        finding,
         rounds: lowest.rounds,
         grades,
     }

@@ -1,5 +1,7 @@
 // The grade of a node under a held set (document 01, "What each node means"), by recursion on the node number, which falls to each
 // child. The children are worked out alike, an absent one as const, and put together once.
+use frames::layout::GRADES;
+use frames::layout::NAMES;
 use grades::access::access;
 use grades::arithmetic::assert_atomic;
 use grades::arithmetic::closure;
@@ -12,10 +14,13 @@ use grades::held::with_name;
 ghost use mathlib.Core.Path.{_≡_};
 ghost use mathlib.Core.List.{_∷_, []};
 ghost use Prim.Native.Nat.{_+_, _≤_, _<_, _^_, min};
+ghost use Rattle.frames.specs.Layout.{layout};
 ghost use Rattle.frames.specs.Ranges.{childrenListed};
-ghost use Rattle.meaning.specs.Meaning.{opOf, childSet, fieldAt, methodAt, fieldAccess, calleeEntry, meaning};
-ghost use Rattle.solver.specs.Engine.{programIn, nodeIn, nodesFrom, tablesIn, noChild, childAt, ownGrade, combined, firstNodeFrame, lastFrame, LocksFit};
-ghost use Rattle.solver.specs.Parts.{PartsOf};
+ghost use Rattle.frames.specs.Program.{fieldAt, methodAt};
+ghost use Rattle.meaning.specs.Meaning.{opOf, childSet, fieldAccess, calleeEntry, meaning};
+ghost use Rattle.solver.specs.Code.Engine.{nodeIn, nodesFrom, tablesIn, childAt, ownGrade, combined, firstNodeFrame, lastFrame, LocksFit};
+ghost use Rattle.solver.specs.Flat.{programIn};
+ghost use Rattle.solver.specs.Code.Parts.{PartsOf};
 
 // A number that is known to be a byte.
 fn byte(x: usize) -> u8
@@ -30,10 +35,10 @@ pub(crate) fn entry_at(grades: &[u8], m: usize, h: usize) -> u8
     requires { ⌜ m < 256 ⌝ }
     ensures { λ r. ⌜ r ≡ tablesIn (now (grades .entry)) m h ⌝ }
 {
-    if 16 <= h {
+    if GRADES <= h {
         return 0;
     }
-    let at = 16 * m + h;
+    let at = GRADES * m + h;
     if grades.len() <= at {
         return 0;
     }
@@ -116,15 +121,15 @@ fn field_grade(tables: &[u8], j: usize, write: bool, set: u8) -> u8
     )
 }
 
-// How many of a node's names the callee takes: as many as it has, of the four. A method that the program lacks has none.
+// How many of a node's names the callee takes: as many as it has, of those that a node lists. A method that the program lacks has none.
 pub(crate) fn names_taken(tables: &[u8], u: usize) -> usize
-    ensures { λ r. ⌜ r ≡ min (methodAt (programIn (now (tables .entry))) u .k) 4 ⌝ }
+    ensures { λ r. ⌜ r ≡ min (methodAt (programIn (now (tables .entry))) u .k) (layout .names) ⌝ }
 {
     if frames::methods(tables) <= u {
         return 0;
     }
     let k = frames::k(tables, u);
-    if k < 4 { k } else { 4 }
+    if k < NAMES { k } else { NAMES }
 }
 
 // The callee's entry.

@@ -1,9 +1,10 @@
 // Whether the engine has room for checked tables: for their methods, their names, their nodes, and the locks of their synchronised nodes.
+use frames::layout::MOST_FRAMES;
+use frames::layout::MOST_METHODS;
+use frames::layout::MOST_NAMES;
 ghost use mathlib.Core.Path.{_≡_};
 ghost use Prim.Native.Nat.{_+_, _≤_};
-ghost use Rattle.frames.specs.Frames.{methodsIn};
-ghost use Rattle.frames.specs.Tables.{cell};
-ghost use Rattle.solver.specs.Engine.{lastFrame};
+ghost use Rattle.frames.specs.Layout.{layout};
 ghost use Rattle.solver.specs.Room.{namesFit, locksFit, hasRoom};
 
 fn names_fit(tables: &[u8], methods: usize) -> bool
@@ -11,7 +12,7 @@ fn names_fit(tables: &[u8], methods: usize) -> bool
 {
     let mut m = 0;
     while m < methods {
-        if 4 < frames::k(tables, m) {
+        if MOST_NAMES < frames::k(tables, m) {
             return false;
         }
         m = m + 1;
@@ -21,7 +22,7 @@ fn names_fit(tables: &[u8], methods: usize) -> bool
 
 // Of the nodes from frame `first` on.
 fn locks_fit(tables: &[u8], first: usize, count: usize) -> bool
-    requires { ⌜ first + count ≤ 1153 ⌝ }
+    requires { ⌜ first + count ≤ layout .mostFrames ⌝ }
     ensures { λ r. ⌜ r ≡ locksFit (now (tables .entry)) first count ⌝ }
 {
     let mut n = 0;
@@ -40,11 +41,11 @@ pub(crate) fn has_room(tables: &[u8]) -> bool
     ensures { λ r. ⌜ r ≡ hasRoom (now (tables .entry)) ⌝ }
 {
     let methods = frames::methods(tables);
-    if 64 < methods {
+    if MOST_METHODS < methods {
         return false;
     }
     let last = frames::first_frame(tables, methods);
-    if 1153 < last {
+    if MOST_FRAMES < last {
         return false;
     }
     if !names_fit(tables, methods) {

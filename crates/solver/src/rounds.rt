@@ -1,28 +1,33 @@
 // The lowest tables, round by round (document 01, "Constraints and the answer"). Tables are flat: entry h of method m at 16m + h.
 use crate::node::node_grade;
+use frames::layout::ANSWER_LENGTH;
+use frames::layout::GRADES;
+use frames::layout::MOST_METHODS;
 ghost use mathlib.Core.Path.{_≡_};
 ghost use mathlib.Core.Bool.{true, false};
 ghost use Prim.Native.Nat.{ℕ, _+_, _*_, _<_, _≤_, _^_};
 ghost use lib.ListN.{length, getD};
+ghost use Rattle.frames.specs.Layout.{layout, answerLength};
 ghost use Rattle.frames.specs.Frames.{methodsIn};
-ghost use Rattle.frames.specs.Tables.{cell, firstFrame};
+ghost use Rattle.frames.specs.Tables.{cell};
 ghost use Rattle.meaning.specs.Meaning.{rootTable};
 ghost use Rattle.meaning.specs.Lowest.{rounds, lowest};
-ghost use Rattle.solver.specs.Engine.{programIn, tablesIn, room};
-ghost use Rattle.solver.specs.Flat.{Fits, Starts, At, Done, Still, SameTo, flat, blank, startTables, roundTables, isFixed};
+ghost use Rattle.solver.specs.Code.Engine.{tablesIn};
+ghost use Rattle.solver.specs.Flat.{programIn, programIn, flat, blank};
+ghost use Rattle.solver.specs.Code.Rounds.{Fits, Starts, At, Done, Still, SameTo, startTables, roundTables, isFixed};
 
 // The lowest tables, and after how many rounds they were reached.
 pub(crate) struct Lowest {
     pub rounds: usize,
-    pub grades: [u8; 1024],
+    pub grades: [u8; ANSWER_LENGTH],
 }
 
 // The frame of each method's first node.
-pub(crate) fn starts_of(tables: &[u8]) -> [usize; 64]
+pub(crate) fn starts_of(tables: &[u8]) -> [usize; MOST_METHODS]
     requires { ⌜ Fits (now tables) ⌝ }
     ensures { λ r. ⌜ Starts (now (tables .entry)) (methodsIn (cell (now (tables .entry)))) r ⌝ }
 {
-    let mut starts = [0usize; 64];
+    let mut starts = [0usize; MOST_METHODS];
     let methods = frames::methods(tables);
     let mut at = 1 + frames::fields(tables) + methods;
     let mut m = 0;
@@ -58,23 +63,23 @@ fn start_method(tables: &[u8], new: &mut [u8], m: usize)
     requires { ⌜ Fits (now tables) ⌝ }
     requires { ⌜ m < methodsIn (cell (now tables)) ⌝ }
     requires { ⌜ isFixed (now tables) m ≡ true ⌝ }
-    requires { ⌜ Done (16 * m) (startTables (now tables)) blank (now new) ⌝ }
-    ensures { λ _. ⌜ Done (16 * m + 16) (startTables (now (tables .entry))) blank (now (new .exit)) ⌝ }
+    requires { ⌜ Done (layout .grades * m) (startTables (now tables)) blank (now new) ⌝ }
+    ensures { λ _. ⌜ Done (layout .grades * m + layout .grades) (startTables (now (tables .entry))) blank (now (new .exit)) ⌝ }
 {
     let count = frames::entries(frames::k(tables, m));
     let mut h = 0;
     while h < count {
-        new[16 * m + h] = frames::entry(tables, m, h) as u8;
+        new[GRADES * m + h] = frames::entry(tables, m, h) as u8;
         h = h + 1;
     }
 }
 
 // The declared tables, and every other table all 0.
-fn start(tables: &[u8]) -> [u8; 1024]
+fn start(tables: &[u8]) -> [u8; ANSWER_LENGTH]
     requires { ⌜ Fits (now tables) ⌝ }
     ensures { λ r. ⌜ r ≡ startTables (now (tables .entry)) ⌝ }
 {
-    let mut new = [0u8; 1024];
+    let mut new = [0u8; ANSWER_LENGTH];
     let methods = frames::methods(tables);
     let mut m = 0;
     while m < methods {
@@ -92,19 +97,23 @@ fn round_method<'a>(tables: &'a [u8], old: &'a [u8], new: &mut [u8], first: usiz
     requires { ⌜ At (now tables) m first ⌝ }
     requires { ⌜ isFixed (now tables) m ≡ false ⌝ }
     requires { ⌜ Still (now tables) (now old) ⌝ }
-    requires { ⌜ Done (16 * m) (roundTables (now tables) (now old)) (now old) (now new) ⌝ }
-    ensures { λ _. ⌜ Done (16 * m + 16) (roundTables (now (tables .entry)) (now (old .entry))) (now (old .entry)) (now (new .exit)) ⌝ }
+    requires { ⌜ Done (layout .grades * m) (roundTables (now tables) (now old)) (now old) (now new) ⌝ }
+    ensures { λ _. ⌜ Done (layout .grades * m + layout .grades) (roundTables (now (tables .entry)) (now (old .entry))) (now (old .entry)) (now (new .exit)) ⌝ }
 {
     let count = frames::entries(frames::k(tables, m));
     let mut h = 0;
     while h < count {
-        new[16 * m + h] = root_grade(tables, old, first, m, h as u8);
+        new[GRADES * m + h] = root_grade(tables, old, first, m, h as u8);
         h = h + 1;
     }
 }
 
 // One round: every undeclared method gets its root's table, all worked out from the tables before the round.
-fn round<'a>(tables: &'a [u8], old: &'a [u8; 1024], starts: &'a [usize]) -> [u8; 1024]
+fn round<'a>(
+    tables: &'a [u8],
+    old: &'a [u8; ANSWER_LENGTH],
+    starts: &'a [usize],
+) -> [u8; ANSWER_LENGTH]
     requires { ⌜ Fits (now tables) ⌝ }
     requires { ⌜ Starts (now tables) (methodsIn (cell (now tables))) (now starts) ⌝ }
     requires { ⌜ Still (now tables) (now old) ⌝ }
@@ -123,8 +132,8 @@ fn round<'a>(tables: &'a [u8], old: &'a [u8; 1024], starts: &'a [usize]) -> [u8;
 }
 
 // Whether two tables are the same up to place n.
-fn same<'a>(old: &'a [u8; 1024], new: &'a [u8; 1024], n: usize) -> bool
-    requires { ⌜ n ≤ 1024 ⌝ }
+fn same<'a>(old: &'a [u8; ANSWER_LENGTH], new: &'a [u8; ANSWER_LENGTH], n: usize) -> bool
+    requires { ⌜ n ≤ answerLength ⌝ }
     ensures { λ r. ⌜ SameTo n (now (old .entry)) (now (new .entry)) r ⌝ }
 {
     let mut i = 0;
@@ -143,7 +152,7 @@ pub(crate) fn lowest_of<'a>(tables: &'a [u8], starts: &'a [usize]) -> Lowest
     requires { ⌜ Starts (now tables) (methodsIn (cell (now tables))) (now starts) ⌝ }
     ensures { λ r. ⌜ (r .rounds ≡ rounds (programIn (now (tables .entry)))) × (r .grades ≡ flat (lowest (programIn (now (tables .entry))))) ⌝ }
 {
-    let used = 16 * frames::methods(tables);
+    let used = GRADES * frames::methods(tables);
     let mut old = start(tables);
     let mut n = 0;
     loop {

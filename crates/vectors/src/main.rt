@@ -8,7 +8,7 @@ fn print(page: &[u8], count: usize) {
 }
 
 fn grade_text(text: &[u8]) {
-    let mut page = [0u8; 2505];
+    let mut page = [0u8; session::LONGEST_SESSION];
     let count = session::session(text, &mut page);
     print(&page, count);
 }

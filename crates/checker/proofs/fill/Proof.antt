@@ -9,6 +9,7 @@ use mathlib.Core.List.{List}
 use native.Mathlib.Decide.{decLt}
 use lib.ListN.{length, getD, set, length-set}
 use lib.Seq.{getD-set-same, getD-set-other, ext-getD}
+use Rattle.frames.specs.Layout.{answerLength}
 use Rattle.checker.proofs.fill.Statement.{statement}
 use Rattle.checker.proofs.fill.Tie as tie
 
@@ -24,10 +25,10 @@ copied answer grades i h before j l = go (decLt j i)
         ap (λ (n : ℕ). getD (set answer i (getD grades i 0)) n 0) same ∙ getD-set-same answer i (getD grades i 0) 0 h ∙ ap (λ (n : ℕ). getD grades n 0) (sym same)
 
 abbrev Inv-loop : tie.InvT-loop
-Inv-loop answer₀ grades i₀ answer i = (i ≤ 1024) × (length answer ≡ 1024) × ((j : ℕ) → j < i → getD answer j 0 ≡ getD grades j 0)
+Inv-loop answer₀ grades i₀ answer i = (i ≤ answerLength) × (length answer ≡ answerLength) × ((j : ℕ) → j < i → getD answer j 0 ≡ getD grades j 0)
 
 abbrev μ-loop : tie.MeasureT-loop
-μ-loop answer₀ grades i₀ answer i = 1024 - i
+μ-loop answer₀ grades i₀ answer i = answerLength - i
 
 loop-holds : tie.Need-loop-holds Inv-loop μ-loop
 loop-holds c = search needs

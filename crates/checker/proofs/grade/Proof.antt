@@ -8,8 +8,8 @@ use Rattle.frames.specs.Reading.{readText}
 use Rattle.frames.specs.declared.Checked.{Checked}
 use Rattle.frames.specs.declared.Outcome.the-variants as Outcome
 use Rattle.solver.specs.Room.{hasRoom}
-use Rattle.checker.specs.Steps.{solvedVerdict, solvedBytes}
-use Rattle.checker.specs.GradingLaws.{wrong-verdict, wrong-bytes, right-verdict, right-bytes, read-room, read-verdict, read-bytes}
+use Rattle.checker.specs.Code.Steps.{solvedVerdict, solvedBytes}
+use Rattle.checker.specs.Laws.Grading.{wrong-verdict, wrong-bytes, right-verdict, right-bytes, read-room, read-verdict, read-bytes}
 use borrow.Author.Needs.{needs}
 use Rattle.checker.proofs.grade.Statement.{statement}
 use Rattle.checker.proofs.grade.Tie as tie

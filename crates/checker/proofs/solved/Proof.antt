@@ -2,7 +2,7 @@
 -- Assumes nothing.
 use mathlib.Core.Path.{_≡_, refl, sym, ap, _∙_}
 use denote.Ref.{now}
-use Rattle.checker.specs.SolvedLaws.{has-room, accepted-verdict, accepted-bytes, broken-verdict, broken-bytes}
+use Rattle.checker.specs.Laws.Solved.{has-room, accepted-verdict, accepted-bytes, broken-verdict, broken-bytes}
 use borrow.Author.Needs.{needs}
 use Rattle.checker.proofs.solved.Statement.{statement}
 use Rattle.checker.proofs.solved.Tie as tie
@@ -22,8 +22,8 @@ fill-requires c κs = search needs
 methods-requires : tie.Need-methods-requires
 methods-requires c κs = search needs
 
-enum-known-verdict : tie.Need-enum-known-verdict
-enum-known-verdict c = search needs
+enum-known-finding : tie.Need-enum-known-finding
+enum-known-finding c = search needs
 
 enum-told-2 : tie.Need-enum-told-2
 enum-told-2 c = search needs
@@ -48,7 +48,7 @@ returns-2 c =
     let t = now (a .tables) in
     let solve = c .before .before .before .solve in
     let room = c .before .before .before .before .before .before .pre .1 in
-    let e = c .before .verdict .given in
+    let e = c .before .finding .given in
     let x = e .0 in (
       broken-verdict t room (solve .result) (solve .ensures) (x .0) (x .1 .0) (x .1 .1 .0) (x .1 .1 .1 .0) (e .1),
       broken-bytes t room (solve .result) (solve .ensures) (x .0) (x .1 .0) (x .1 .1 .0) (x .1 .1 .1 .0) (e .1) (now (a .answer)),
@@ -68,7 +68,7 @@ solved-spec =
     slice-aggregate-fill
     fill-requires
     methods-requires
-    enum-known-verdict
+    enum-known-finding
     enum-told-2
     same-length
     returns

@@ -6,7 +6,7 @@ use lib.ListN.{length}
 use Rattle.checker.specs.Grading.{numbersOf}
 use Rattle.checker.specs.declared.Verdict.{Verdict}
 use Rattle.exports.specs.Record.{recordOf}
-use Rattle.exports.specs.RecordLaws.{wrong-returned, wrong-answered, wrong-recorded, right-returned, right-answered, right-recorded}
+use Rattle.exports.specs.Laws.Record.{wrong-returned, wrong-answered, wrong-recorded, right-returned, right-answered, right-recorded}
 use borrow.Author.Needs.{needs}
 use Rattle.exports.proofs.ikhzorvan_grade.Statement.{statement}
 use Rattle.exports.proofs.ikhzorvan_grade.Tie as tie

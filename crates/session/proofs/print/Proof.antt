@@ -3,7 +3,7 @@
 use mathlib.Core.Path.{refl, sym, _∙_}
 use denote.Ref.{now}
 use Rattle.checker.specs.declared.Verdict.the-variants.{WrongLength, Overlong}
-use Rattle.session.specs.SessionLaws.{by-verdict}
+use Rattle.session.specs.Laws.Session.{by-verdict}
 use borrow.Author.Needs.{needs}
 use Rattle.session.proofs.print.Statement.{statement}
 use Rattle.session.proofs.print.Tie as tie

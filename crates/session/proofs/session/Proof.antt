@@ -2,7 +2,7 @@
 -- Assumes nothing.
 use native.Mathlib.Omega.{arith}
 use denote.Ref.{now}
-use Rattle.session.specs.PageLaws.{copied, printed-none}
+use Rattle.session.specs.Laws.Page.{copied, printed-none}
 use Rattle.session.specs.Session.{sessionOf}
 use borrow.Author.Needs.{needs}
 use Rattle.session.proofs.session.Statement.{statement}

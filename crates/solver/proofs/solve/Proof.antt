@@ -5,29 +5,31 @@ use native.Mathlib.Omega.{arith}
 use denote.Ref.{now}
 use mathlib.Core.Bool.{Bool, true}
 use mathlib.Core.List.{List}
+use Rattle.frames.specs.Layout.{layout}
 use Rattle.meaning.specs.Lowest.{methodCount, rounds, lowest}
 use Rattle.solver.specs.declared.Solved.{Solved}
-use Rattle.solver.specs.declared.constraints.Verdict.{Verdict}
+use Rattle.solver.specs.declared.constraints.Finding.{Finding}
 use Prim.Native.Nat.{ℕ}
 use borrow.Author.Tests.{not-true, not-false}
 use Rattle.meaning.specs.Meaning.{Assignment}
-use Rattle.meaning.specs.Counting.{upTo}
-use Rattle.meaning.specs.Constraints.{verdict}
-use Rattle.solver.specs.Engine.{programIn, tablesIn}
-use Rattle.solver.specs.Flat.{blank, flat}
-use Rattle.solver.specs.Room.{hasRoom, room-fits}
-use Rattle.solver.specs.RoundLaws.{lowest-read}
+use Rattle.counting.specs.Counting.{upTo}
+use Rattle.meaning.specs.Constraints.{finding}
+use Rattle.solver.specs.Code.Engine.{tablesIn}
+use Rattle.solver.specs.Flat.{programIn, blank, flat}
+use Rattle.solver.specs.Room.{hasRoom}
+use Rattle.solver.specs.Laws.Rounds.{lowest-read}
 use Rattle.solver.specs.Solved.{solvedBy, solved}
-use Rattle.solver.specs.Verdicts.{found}
-use Rattle.solver.specs.Views.{method-count}
+use Rattle.solver.specs.Laws.Views.{method-count}
 use borrow.Author.Needs.{needs}
 use Rattle.solver.proofs.solve.Statement.{statement}
+use Rattle.solver.specs.Findings.{found}
+use Rattle.solver.specs.Laws.Room.{room-fits}
 use Rattle.solver.proofs.solve.Tie as tie
 
 -- what is solved, part by part
-assembled : (t : List ℕ) (v : Verdict) (r : ℕ) (g : List ℕ) → v ≡ found (verdict (programIn t) (lowest (programIn t)) (upTo (methodCount (programIn t))))
-    → r ≡ rounds (programIn t) → g ≡ flat (lowest (programIn t)) → _≡_ {A = Solved} (record { verdict = v; rounds = r; grades = g }) (solvedBy true t)
-assembled t v r g ev er eg = λ i. record { verdict = ev i; rounds = er i; grades = eg i }
+assembled : (t : List ℕ) (v : Finding) (r : ℕ) (g : List ℕ) → v ≡ found (finding (programIn t) (lowest (programIn t)) (upTo (methodCount (programIn t))))
+    → r ≡ rounds (programIn t) → g ≡ flat (lowest (programIn t)) → _≡_ {A = Solved} (record { finding = v; rounds = r; grades = g }) (solvedBy true t)
+assembled t v r g ev er eg = λ i. record { finding = ev i; rounds = er i; grades = eg i }
 
 has-room-requires : tie.Need-has-room-requires
 has-room-requires c κs = search needs
@@ -63,7 +65,7 @@ returns-2 c = let t = now (c .before .before .before .before .before .before .be
     let lowest = c .before .before .before .before .lowest-of .ensures in
     assembled t (c .first-broken .result) (c .before .before .before .before .lowest-of .result .rounds) (c .before .before .before .before .lowest-of .result .grades)
     (c .first-broken .ensures
-    ∙ ap₂ (λ (g : Assignment) (n : ℕ). found (verdict (programIn t) g (upTo n))) (ap tablesIn (lowest .1) ∙ lowest-read t fits) (sym (method-count t)))
+    ∙ ap₂ (λ (g : Assignment) (n : ℕ). found (finding (programIn t) g (upTo n))) (ap tablesIn (lowest .1) ∙ lowest-read t fits) (sym (method-count t)))
     (lowest .0) (lowest .1)
     ∙ ap (λ (x : Bool). solvedBy x t) (sym room)
 

@@ -4,7 +4,8 @@ use borrow.Author.Needs.{needs}
 use native.Mathlib.Omega.{arith}
 use Prim.Native.Nat.{_+_, _*_}
 use mathlib.Core.Path.{sym}
-use Rattle.frames.specs.TableLaws.{cell-in, cell-past-frame, cell-past-byte, cell-past-end}
+use Rattle.frames.specs.Layout.{layout}
+use Rattle.frames.specs.Laws.Tables.{cell-in, cell-past-frame, cell-past-byte, cell-past-end}
 use Rattle.frames.proofs.accessors.cell.Statement.{statement}
 use Rattle.frames.proofs.accessors.cell.Tie as tie
 
@@ -27,14 +28,14 @@ shared-slice-read-result : tie.Need-shared-slice-read-result
 shared-slice-read-result c = search needs
 
 cast-result : tie.Need-cast-result
-cast-result c = omega (arith, c .shared-slice-known .given (c .before .before .before .before .args .j * 21 + c .before .before .before .before .args .b))
+cast-result c = omega (arith, c .shared-slice-known .given (c .before .before .before .before .args .j * layout .stride + c .before .before .before .before .args .b))
 
 returns-4 : tie.Need-returns-4
 returns-4 c =
     let a = c .before .before .before .before .args in
     record {
       is = sym (cell-in _ _ _ (c .before .before .before .if1 .left) (c .before .before .if2 .left));
-      small = omega (arith, c .shared-slice-known .given (a .j * 21 + a .b));
+      small = omega (arith, c .shared-slice-known .given (a .j * layout .stride + a .b));
     }
 
 pub cell-spec : {M : Type 1} → statement M

@@ -3,11 +3,12 @@
 use native.Mathlib.Omega.{arith}
 use Prim.Native.Nat.{ℕ, _≤_, _^_}
 use lib.Pow.{pow-mono}
+use Rattle.frames.specs.Layout.{layout}
 use Rattle.frames.proofs.accessors.entries.Statement.{statement}
 use Rattle.frames.proofs.accessors.entries.Tie as tie
 
 -- 16 held sets from four names on
-many : (k : ℕ) → 4 ≤ k → 16 ≤ 2 ^ k
+many : (k : ℕ) → 4 ≤ k → layout .grades ≤ 2 ^ k
 many k h = pow-mono h
 
 returns : tie.Need-returns

@@ -1,8 +1,9 @@
 -- `first_frame` meets its contract: methods that the tables have no room for have no nodes.
 -- Assumes nothing.
+use Rattle.frames.specs.Layout.{layout}
 use Rattle.frames.specs.Tables.{cell}
 use Rattle.frames.specs.Links.{nodesBefore}
-use Rattle.frames.specs.TableLaws.{nodes-before-past}
+use Rattle.frames.specs.Laws.Tables.{nodes-before-past}
 use denote.Ref.{now}
 use Prim.Native.Nat.{_+_, _-_}
 use mathlib.Core.Path.{_≡_, ap, _∙_}
@@ -33,8 +34,8 @@ returns : tie.Need-returns
 returns c =
     let t = now (c .before .before .before .before .before .args .tables) in
     let m = c .before .before .before .before .before .args .m in
-    let e : m ≡ (m - 1153) + 1153 = omega arith in
-    omega (arith, ap (nodesBefore (cell t)) e ∙ nodes-before-past t (m - 1153))
+    let e : m ≡ (m - layout .mostFrames) + layout .mostFrames = omega arith in
+    omega (arith, ap (nodesBefore (cell t)) e ∙ nodes-before-past t (m - layout .mostFrames))
 
 nodes-before-requires-2 : tie.Need-nodes-before-requires-2
 nodes-before-requires-2 c κs = search needs

@@ -1,6 +1,6 @@
 -- `method_cell` meets its contract: past the tables every byte is 0.
 -- Assumes nothing.
-use Rattle.frames.specs.TableLaws.{cell-past-frame}
+use Rattle.frames.specs.Laws.Tables.{cell-past-frame}
 use mathlib.Core.Path.{sym}
 use native.Mathlib.Omega.{arith}
 use borrow.Author.Needs.{needs}

@@ -1,10 +1,10 @@
 -- `name` meets its contract: a list made by number has at each place what it was made of.
 -- Assumes nothing.
-use Rattle.frames.specs.TableLaws.{getD-tabulate, getD-past-tabulate}
 use mathlib.Core.Path.{sym, _∙_}
 use native.Mathlib.Omega.{arith}
 use borrow.Author.Needs.{needs}
 use Rattle.frames.proofs.accessors.name.Statement.{statement}
+use Rattle.counting.specs.Laws.Lists.{getD-tabulate, getD-past-tabulate}
 use Rattle.frames.proofs.accessors.name.Tie as tie
 
 returns : tie.Need-returns

@@ -5,7 +5,7 @@ use Rattle.frames.specs.Links.{nodeCount}
 use denote.Ref.{now}
 use Prim.Native.Nat.{_+_, _*_}
 use mathlib.Core.Path.{_≡_, sym, _∙_}
-use Rattle.frames.specs.TableLaws.{nodes-length}
+use Rattle.frames.specs.Laws.Tables.{nodes-length}
 use native.Mathlib.Omega.{arith}
 use borrow.Author.Needs.{needs}
 use Rattle.frames.proofs.accessors.node_count.Statement.{statement}

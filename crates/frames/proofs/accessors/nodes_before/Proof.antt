@@ -3,7 +3,7 @@
 use mathlib.Core.Path.{ap}
 use Rattle.frames.specs.Tables.{cell}
 use Rattle.frames.specs.Links.{nodesBefore}
-use Rattle.frames.specs.TableLaws.{nodes-before-more, nodes-length}
+use Rattle.frames.specs.Laws.Tables.{nodes-before-more, nodes-length}
 use Prim.Native.Nat.{_≤_, _-_, _*_}
 use mathlib.Core.Path.{_≡_, refl, _∙_}
 use borrow.Author.Needs.{needs}

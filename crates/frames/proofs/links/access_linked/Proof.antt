@@ -4,7 +4,7 @@ use lib.Dec.{eqb}
 use Prim.Native.Nat.{ℕ}
 use Rattle.frames.specs.Frames.{fieldFrame}
 use Rattle.frames.specs.Links.{guardUses, nameOrNone}
-use Rattle.frames.specs.LinkLaws.{access-outside, access-used, access-unused}
+use Rattle.frames.specs.Laws.Links.{access-outside, access-used, access-unused}
 use denote.Ref.{now}
 use Rattle.frames.specs.Tables.{cell}
 use mathlib.Core.Path.{sym, ap, _∙_}

@@ -1,16 +1,16 @@
 -- `call_linked` meets its contract.
 -- Assumes nothing.
 use Rattle.frames.specs.Links.{callNameLinked}
-use Rattle.frames.specs.Lists.{every}
 use Prim.Native.Nat.{ℕ}
 use Rattle.frames.specs.Frames.{methodFrame}
-use Rattle.frames.specs.LinkLaws.{call-outside, call-inside}
+use Rattle.frames.specs.Laws.Links.{call-outside, call-inside}
 use denote.Ref.{now}
 use Rattle.frames.specs.Tables.{cell}
 use mathlib.Core.Path.{sym, ap, _∙_}
 use native.Mathlib.Omega.{arith}
 use borrow.Author.Needs.{needs}
 use Rattle.frames.proofs.links.call_linked.Statement.{statement}
+use Rattle.counting.specs.Counting.{every}
 use Rattle.frames.proofs.links.call_linked.Tie as tie
 
 cell-requires : tie.Need-cell-requires

@@ -3,7 +3,7 @@
 use lib.Dec.{eqb}
 use Prim.Native.Nat.{ℕ}
 use Rattle.frames.specs.Links.{nameOrNone}
-use Rattle.frames.specs.LinkLaws.{call-name-needed, call-name-none}
+use Rattle.frames.specs.Laws.Links.{call-name-needed, call-name-none}
 use denote.Ref.{now}
 use Rattle.frames.specs.Tables.{cell}
 use mathlib.Core.Path.{sym, ap, _∙_}

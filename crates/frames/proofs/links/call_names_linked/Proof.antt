@@ -1,8 +1,6 @@
 -- `call_names_linked` meets its contract: all names that the loop passed are linked.
 -- Assumes nothing.
 use Rattle.frames.specs.Links.{callNameLinked}
-use Rattle.frames.specs.RangeLaws.{every-more, every-fails}
-use Rattle.frames.specs.Lists.{every}
 use mathlib.Core.Bool.{true}
 use Prim.Native.Nat.{ℕ, _≤_, _-_}
 use denote.Ref.{now}
@@ -11,6 +9,8 @@ use mathlib.Core.Path.{_≡_, refl, sym, ap, _∙_}
 use native.Mathlib.Omega.{arith}
 use borrow.Author.Tests.{not-true, not-false}
 use Rattle.frames.proofs.links.call_names_linked.Statement.{statement}
+use Rattle.counting.specs.Laws.Counting.{every-more, every-fails}
+use Rattle.counting.specs.Counting.{every}
 use Rattle.frames.proofs.links.call_names_linked.Tie as tie
 
 abbrev Inv-loop : tie.InvT-loop

@@ -3,7 +3,7 @@
 use lib.Dec.{ltb}
 use Prim.Native.Nat.{ℕ}
 use Rattle.frames.specs.Frames.{methodFrame}
-use Rattle.frames.specs.LinkLaws.{fork-outside, fork-inside}
+use Rattle.frames.specs.Laws.Links.{fork-outside, fork-inside}
 use denote.Ref.{now}
 use Rattle.frames.specs.Tables.{cell}
 use mathlib.Core.Path.{sym, ap, _∙_}

@@ -1,6 +1,6 @@
 -- `linked` meets its contract, frame by frame.
 -- Assumes nothing.
-use Rattle.frames.specs.LinkLaws.{linked-header, linked-field, linked-method, linked-node, linked-end}
+use Rattle.frames.specs.Laws.Links.{linked-header, linked-field, linked-method, linked-node, linked-end}
 use Rattle.frames.specs.Links.{methodLinked}
 use Prim.Native.Nat.{ℕ, _+_, _-_}
 use mathlib.Core.Bool.{false}

@@ -1,6 +1,6 @@
 -- `method_linked` meets its contract.
 -- Assumes nothing.
-use Rattle.frames.specs.LinkLaws.{method-last, method-earlier}
+use Rattle.frames.specs.Laws.Links.{method-last, method-earlier}
 use Rattle.frames.specs.Frames.{methodsIn}
 use Rattle.frames.specs.Links.{nodesBefore}
 use lib.Dec.{eqb}

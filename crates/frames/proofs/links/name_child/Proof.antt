@@ -1,7 +1,7 @@
 -- `name_child` meets its contract: each way out is a case of naming one child.
 -- Assumes nothing.
 use borrow.Author.Tests.{not-true, not-false}
-use Rattle.frames.specs.LinkLaws.{named-none, named-above, named-again, named-now}
+use Rattle.frames.specs.Laws.Links.{named-none, named-above, named-again, named-now}
 use borrow.Author.Needs.{needs}
 use Rattle.frames.proofs.links.name_child.Statement.{statement}
 use Rattle.frames.proofs.links.name_child.Tie as tie

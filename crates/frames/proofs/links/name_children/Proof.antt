@@ -1,6 +1,6 @@
 -- `name_children` meets its contract: X, Y and Z are named one after the other.
 -- Assumes nothing.
-use Rattle.frames.specs.LinkLaws.{names-X-fails, names-Y-fails, names-all}
+use Rattle.frames.specs.Laws.Links.{names-X-fails, names-Y-fails, names-all}
 use Rattle.frames.specs.Ranges.{childrenListed}
 use mathlib.Core.Bool.{false}
 use mathlib.Core.List.{[]}

@@ -2,7 +2,7 @@
 -- Assumes nothing.
 use lib.Dec.{ltb}
 use Prim.Native.Nat.{ℕ}
-use Rattle.frames.specs.LinkLaws.{names-read, names-write, names-synchronised, names-call, names-fork, names-other}
+use Rattle.frames.specs.Laws.Links.{names-read, names-write, names-synchronised, names-call, names-fork, names-other}
 use denote.Ref.{now}
 use Rattle.frames.specs.Tables.{cell}
 use mathlib.Core.Path.{sym, ap, _∙_}

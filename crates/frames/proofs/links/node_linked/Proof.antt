@@ -1,6 +1,6 @@
 -- `node_linked` meets its contract: first the children, then U and the names.
 -- Assumes nothing.
-use Rattle.frames.specs.LinkLaws.{node-fails, node-then}
+use Rattle.frames.specs.Laws.Links.{node-fails, node-then}
 use Rattle.frames.specs.Links.{namesLinked}
 use Prim.Native.Nat.{ℕ}
 use mathlib.Core.Bool.{false}

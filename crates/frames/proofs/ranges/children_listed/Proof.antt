@@ -1,7 +1,7 @@
 -- `children_listed` meets its contract: the constant is the definition's list.
 -- Assumes nothing.
 use Rattle.frames.specs.Ranges.{childrenListed}
-use Rattle.frames.specs.RangeLaws.{children-past}
+use Rattle.frames.specs.Laws.Ranges.{children-past}
 use mathlib.Core.Path.{refl, sym}
 use borrow.Author.Needs.{needs}
 use Rattle.frames.proofs.ranges.children_listed.Statement.{statement}

@@ -1,6 +1,6 @@
 -- `grade_in_range` meets its contract: below 16 the count of listed grades may be cut at 16.
 -- Assumes nothing.
-use Rattle.frames.specs.RangeLaws.{grade-listed, grade-unlisted}
+use Rattle.frames.specs.Laws.Ranges.{grade-listed, grade-unlisted}
 use lib.Dec.{leb, eqb}
 use Prim.Native.Nat.{ℕ}
 use denote.Ref.{now}

@@ -1,8 +1,7 @@
 -- `grades_in_range` meets its contract: all that the loop passed are in range.
 -- Assumes nothing.
+use Rattle.frames.specs.Layout.{layout}
 use Rattle.frames.specs.Ranges.{gradesListed, gradeInRange}
-use Rattle.frames.specs.RangeLaws.{every-more, every-fails}
-use Rattle.frames.specs.Lists.{every}
 use mathlib.Core.Bool.{true}
 use Prim.Native.Nat.{ℕ, _≤_, _-_, min}
 use borrow.Author.Needs.{needs}
@@ -12,14 +11,16 @@ use mathlib.Core.Path.{_≡_, refl, sym, ap, _∙_}
 use native.Mathlib.Omega.{arith}
 use borrow.Author.Tests.{not-true, not-false}
 use Rattle.frames.proofs.ranges.grades_in_range.Statement.{statement}
+use Rattle.counting.specs.Laws.Counting.{every-more, every-fails}
+use Rattle.counting.specs.Counting.{every}
 use Rattle.frames.proofs.ranges.grades_in_range.Tie as tie
 
 abbrev Inv-loop : tie.InvT-loop
 Inv-loop tables j listed h₀ h =
-    (every h (gradeInRange (cell tables j)) ≡ true) × ((h ≤ 16) × (listed ≡ min (gradesListed (cell tables j)) 16))
+    (every h (gradeInRange (cell tables j)) ≡ true) × ((h ≤ layout .grades) × (listed ≡ min (gradesListed (cell tables j)) (layout .grades)))
 
 abbrev μ-loop : tie.MeasureT-loop
-μ-loop tables j listed h₀ h = 16 - h
+μ-loop tables j listed h₀ h = layout .grades - h
 
 grades-listed-requires : tie.Need-grades-listed-requires Inv-loop μ-loop
 grades-listed-requires c κs = search needs
@@ -34,7 +35,7 @@ grade-in-range-requires c κs = (omega arith, c .before .loop .inv .1 .1)
 returns : tie.Need-returns Inv-loop μ-loop
 returns c =
     let r = cell (now (c .before .before .before .before .before .before .args .tables)) (c .before .before .before .before .before .before .args .j) in
-    sym (every-fails 16 (gradeInRange r) (c .before .before .before .loop .h) (omega arith) (sym (c .before .grade-in-range .ensures) ∙ not-true _ (c .if1 .taken)))
+    sym (every-fails (layout .grades) (gradeInRange r) (c .before .before .before .loop .h) (omega arith) (sym (c .before .grade-in-range .ensures) ∙ not-true _ (c .if1 .taken)))
 
 add-h : tie.Need-add-h Inv-loop μ-loop
 add-h c = omega arith
@@ -50,7 +51,7 @@ loop-again c =
 returns-2 : tie.Need-returns-2 Inv-loop μ-loop
 returns-2 c =
     let r = cell (now (c .before .before .before .before .args .tables)) (c .before .before .before .before .args .j) in
-    let e : c .before .loop .h ≡ 16 = omega arith in
+    let e : c .before .loop .h ≡ layout .grades = omega arith in
     sym (ap (λ (n : ℕ). every n (gradeInRange r)) (sym e) ∙ c .before .loop .inv .0)
 
 pub grades-in-range-spec : {M : Type 1} → statement M

@@ -1,5 +1,6 @@
 -- `grades_listed` meets its contract.
 -- Assumes nothing.
+use Rattle.frames.specs.Layout.{layout}
 use Rattle.frames.specs.Ranges.{gradesListed}
 use Prim.Native.Nat.{ℕ, _^_, min}
 use denote.Ref.{now}
@@ -24,7 +25,7 @@ returns : tie.Need-returns
 unfolding gradesListed
 returns c =
     let r = cell (now (c .before .before .before .before .before .args .tables)) (c .before .before .before .before .before .args .j) in
-    simp (eq-eqb (r 4) 1 (omega arith)) (c .entries .ensures ∙ ap (λ (k : ℕ). min (2 ^ k) 16) (c .before .cell2 .ensures .is))
+    simp (eq-eqb (r 4) 1 (omega arith)) (c .entries .ensures ∙ ap (λ (k : ℕ). min (2 ^ k) (layout .grades)) (c .before .cell2 .ensures .is))
 
 returns-2 : tie.Need-returns-2
 unfolding gradesListed

@@ -1,5 +1,6 @@
 -- `header_in_range` meets its contract: the tests are the definition's.
 -- Assumes nothing.
+use Rattle.frames.specs.Layout.{layout}
 use Rattle.frames.specs.Frames.{two}
 use Rattle.frames.specs.Ranges.{headerInRange}
 use denote.Ref.{now}
@@ -29,31 +30,31 @@ returns-2 : tie.Need-returns-2
 unfolding headerInRange
 returns-2 c =
     let r = cell (now (c .before .before .before .before .before .before .args .tables)) (c .before .before .before .before .before .before .args .j) in
-    simp (le-leb 1 (r 1) (omega arith), lt-leb (r 1) 64 (omega arith))
+    simp (le-leb 1 (r 1) (omega arith), lt-leb (r 1) (layout .mostMethods) (omega arith))
 
 returns-3 : tie.Need-returns-3
 unfolding headerInRange
 returns-3 c =
     let r = cell (now (c .before .before .before .before .before .before .before .args .tables)) (c .before .before .before .before .before .before .before .args .j) in
-    simp (le-leb 1 (r 1) (omega arith), le-leb (r 1) 64 (omega arith), lt-leb (r 2) 64 (omega arith))
+    simp (le-leb 1 (r 1) (omega arith), le-leb (r 1) (layout .mostMethods) (omega arith), lt-leb (r 2) (layout .mostFields) (omega arith))
 
 returns-4 : tie.Need-returns-4
 unfolding headerInRange
 returns-4 c =
     let r = cell (now (c .before .before .before .before .before .before .before .before .args .tables)) (c .before .before .before .before .before .before .before .before .args .j) in
-    simp (le-leb 1 (r 1) (omega arith), le-leb (r 1) 64 (omega arith), le-leb (r 2) 64 (omega arith), lt-leb 1 (two r 3) (omega arith))
+    simp (le-leb 1 (r 1) (omega arith), le-leb (r 1) (layout .mostMethods) (omega arith), le-leb (r 2) (layout .mostFields) (omega arith), lt-leb 1 (two r 3) (omega arith))
 
 returns-5 : tie.Need-returns-5
 unfolding headerInRange
 returns-5 c =
     let r = cell (now (c .before .before .before .before .before .before .before .before .before .args .tables)) (c .before .before .before .before .before .before .before .before .before .args .j) in
-    simp (le-leb 1 (r 1) (omega arith), le-leb (r 1) 64 (omega arith), le-leb (r 2) 64 (omega arith), le-leb 1 (two r 3) (omega arith), lt-leb (two r 3) 1024 (omega arith))
+    simp (le-leb 1 (r 1) (omega arith), le-leb (r 1) (layout .mostMethods) (omega arith), le-leb (r 2) (layout .mostFields) (omega arith), le-leb 1 (two r 3) (omega arith), lt-leb (two r 3) (layout .mostNodes) (omega arith))
 
 returns-6 : tie.Need-returns-6
 unfolding headerInRange
 returns-6 c =
     let r = cell (now (c .before .before .before .before .before .before .before .before .before .args .tables)) (c .before .before .before .before .before .before .before .before .before .args .j) in
-    simp (le-leb 1 (r 1) (omega arith), le-leb (r 1) 64 (omega arith), le-leb (r 2) 64 (omega arith), le-leb 1 (two r 3) (omega arith), le-leb (two r 3) 1024 (omega arith))
+    simp (le-leb 1 (r 1) (omega arith), le-leb (r 1) (layout .mostMethods) (omega arith), le-leb (r 2) (layout .mostFields) (omega arith), le-leb 1 (two r 3) (omega arith), le-leb (two r 3) (layout .mostNodes) (omega arith))
 
 pub header-in-range-spec : {M : Type 1} → statement M
 header-in-range-spec =

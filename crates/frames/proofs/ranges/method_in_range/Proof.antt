@@ -1,6 +1,7 @@
 -- `method_in_range` meets its contract: the tests are the definition's.
 -- Assumes nothing.
 use mathlib.Core.Bool.{cond}
+use Rattle.frames.specs.Layout.{layout}
 use Rattle.frames.specs.Frames.{two}
 use Rattle.frames.specs.Ranges.{methodInRange}
 use denote.Ref.{now}
@@ -39,7 +40,7 @@ unfolding methodInRange
 returns-3 c =
     let r = cell (now (c .before .before .before .before .before .before .before .args .tables)) (c .before .before .before .before .before .before .before .args .j) in
     let main = c .before .before .before .before .before .before .before .args .main in
-    simp (le-leb (r 1) (cond main 0 4) (omega arith), le-leb 1 (two r 2) (omega arith), lt-leb (two r 2) 1024 (omega arith))
+    simp (le-leb (r 1) (cond main 0 4) (omega arith), le-leb 1 (two r 2) (omega arith), lt-leb (two r 2) (layout .mostNodes) (omega arith))
 
 cell-requires-2 : tie.Need-cell-requires-2
 cell-requires-2 c κs = search needs
@@ -49,7 +50,7 @@ unfolding methodInRange
 returns-4 c =
     let r = cell (now (c .before .before .before .before .before .before .before .before .before .args .tables)) (c .before .before .before .before .before .before .before .before .before .args .j) in
     let main = c .before .before .before .before .before .before .before .before .before .args .main in
-    simp (le-leb (r 1) (cond main 0 4) (omega arith), le-leb 1 (two r 2) (omega arith), le-leb (two r 2) 1024 (omega arith), lt-leb (r 4) 1 (omega arith))
+    simp (le-leb (r 1) (cond main 0 4) (omega arith), le-leb 1 (two r 2) (omega arith), le-leb (two r 2) (layout .mostNodes) (omega arith), lt-leb (r 4) 1 (omega arith))
 
 grades-in-range-requires : tie.Need-grades-in-range-requires
 grades-in-range-requires c κs = search needs
@@ -59,7 +60,7 @@ unfolding methodInRange
 returns-5 c =
     let r = cell (now (c .before .before .before .before .before .before .before .before .before .before .args .tables)) (c .before .before .before .before .before .before .before .before .before .before .args .j) in
     let main = c .before .before .before .before .before .before .before .before .before .before .args .main in
-    simp (le-leb (r 1) (cond main 0 4) (omega arith), le-leb 1 (two r 2) (omega arith), le-leb (two r 2) 1024 (omega arith), le-leb (r 4) 1 (omega arith)) (c .grades-in-range .ensures)
+    simp (le-leb (r 1) (cond main 0 4) (omega arith), le-leb 1 (two r 2) (omega arith), le-leb (two r 2) (layout .mostNodes) (omega arith), le-leb (r 4) 1 (omega arith)) (c .grades-in-range .ensures)
 
 pub method-in-range-spec : {M : Type 1} → statement M
 method-in-range-spec =

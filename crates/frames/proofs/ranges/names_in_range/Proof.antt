@@ -1,8 +1,6 @@
 -- `names_in_range` meets its contract: all that the loop passed are in range.
 -- Assumes nothing.
 use Rattle.frames.specs.Ranges.{namesListed, nameInRange}
-use Rattle.frames.specs.RangeLaws.{every-more, every-fails}
-use Rattle.frames.specs.Lists.{every}
 use mathlib.Core.Bool.{true}
 use Prim.Native.Nat.{ℕ, _≤_, _-_}
 use borrow.Author.Needs.{needs}
@@ -12,6 +10,8 @@ use mathlib.Core.Path.{_≡_, refl, sym, ap, _∙_}
 use native.Mathlib.Omega.{arith}
 use borrow.Author.Tests.{not-true, not-false}
 use Rattle.frames.proofs.ranges.names_in_range.Statement.{statement}
+use Rattle.counting.specs.Laws.Counting.{every-more, every-fails}
+use Rattle.counting.specs.Counting.{every}
 use Rattle.frames.proofs.ranges.names_in_range.Tie as tie
 
 abbrev Inv-loop : tie.InvT-loop

@@ -1,7 +1,7 @@
 -- `names_listed` meets its contract: the constant is the definition's list.
 -- Assumes nothing.
 use Rattle.frames.specs.Ranges.{namesListed}
-use Rattle.frames.specs.RangeLaws.{names-past}
+use Rattle.frames.specs.Laws.Ranges.{names-past}
 use mathlib.Core.Path.{refl, sym}
 use borrow.Author.Needs.{needs}
 use Rattle.frames.proofs.ranges.names_listed.Statement.{statement}

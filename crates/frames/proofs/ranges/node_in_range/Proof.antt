@@ -1,7 +1,7 @@
 -- `node_in_range` meets its contract: the tests are the definition's.
 -- Assumes nothing.
 use Rattle.frames.specs.Ranges.{childrenListed, usesField, usesMethod}
-use Rattle.frames.specs.RangeLaws.{operand, fails-first, fails-later, holds-then}
+use Rattle.frames.specs.Laws.Ranges.{operand, fails-first, fails-later, holds-then}
 use mathlib.Core.Bool.{_||_}
 use lib.Dec.{ltb}
 use Prim.Native.Nat.{ℕ}

@@ -1,6 +1,6 @@
 -- `uses` meets its contract, op by op.
 -- Assumes nothing.
-use Rattle.frames.specs.RangeLaws.{uses-rest}
+use Rattle.frames.specs.Laws.Ranges.{uses-rest}
 use mathlib.Core.Path.{sym}
 use borrow.Author.Tests.{eq-eqb, ne-eqb}
 use Rattle.frames.proofs.ranges.uses.Statement.{statement}

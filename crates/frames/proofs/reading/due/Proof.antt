@@ -1,6 +1,6 @@
 -- `due` meets its contract: the tests are the definition's.
 -- Assumes nothing.
-use Rattle.frames.specs.StepLaws.{due-header, due-field, due-method, due-node, due-end}
+use Rattle.frames.specs.Laws.Steps.{due-header, due-field, due-method, due-node, due-end}
 use mathlib.Core.Path.{sym}
 use native.Mathlib.Omega.{arith}
 use borrow.Author.Needs.{needs}

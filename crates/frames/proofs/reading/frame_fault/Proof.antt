@@ -1,6 +1,6 @@
 -- `frame_fault` meets its contract: 5 is tested before 6.
 -- Assumes nothing.
-use Rattle.frames.specs.StepLaws.{tested-range, tested-linked, tested-sound}
+use Rattle.frames.specs.Laws.Steps.{tested-range, tested-linked, tested-sound}
 use denote.Ref.{now}
 use mathlib.Core.Bool.{false}
 use borrow.Author.Tests.{not-true, not-false}

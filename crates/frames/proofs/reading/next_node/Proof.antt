@@ -1,7 +1,7 @@
 -- `next_node` meets its contract.
 -- Assumes nothing.
-use Rattle.frames.specs.TableLaws.{nodes-length}
-use Rattle.frames.specs.StepLaws.{next-over, next-on}
+use Rattle.frames.specs.Laws.Tables.{nodes-length}
+use Rattle.frames.specs.Laws.Steps.{next-over, next-on}
 use denote.Ref.{now}
 use Rattle.frames.specs.Tables.{cell}
 use mathlib.Core.Path.{sym, _∙_}

@@ -1,6 +1,6 @@
 -- `next_stand` meets its contract.
 -- Assumes nothing.
-use Rattle.frames.specs.Steps.{nextStand}
+use Rattle.frames.specs.Code.Steps.{nextStand}
 use Rattle.frames.specs.declared.Due.{Due}
 use denote.Ref.{now}
 use Rattle.frames.specs.Tables.{cell}

@@ -1,7 +1,7 @@
 -- `placed` meets its contract.
 -- Assumes nothing.
-use Rattle.frames.specs.StepLaws.{placed-length, placed-kind}
-use Rattle.frames.specs.Lines.{bytes}
+use Rattle.frames.specs.Laws.Steps.{placed-length, placed-kind}
+use Rattle.lines.specs.Lines.{bytes}
 use lib.ListN.{getD}
 use lib.Dec.{eqb}
 use Prim.Native.Nat.{ℕ}

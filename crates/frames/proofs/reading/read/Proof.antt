@@ -1,6 +1,6 @@
 -- `read` meets its contract: one text, and nothing after it.
 -- Assumes nothing.
-use Rattle.frames.specs.WholeLaws.{read-long, read-refused, read-surplus, read-whole}
+use Rattle.frames.specs.Laws.WholeText.{read-long, read-refused, read-surplus, read-whole}
 use borrow.Author.Tests.{not-true, not-false}
 use mathlib.Core.Path.{sym, _∙_}
 use borrow.Author.Needs.{needs}

@@ -1,18 +1,19 @@
 -- `read_one` meets its contract: the loop carries what `Going` says, and each way out is one of the definition's.
 -- Assumes nothing.
-use Rattle.frames.specs.Marks.{markedBy}
-use Rattle.frames.specs.Lists.{zeros}
+use Rattle.lines.specs.Laws.Places.{past-line}
+use Rattle.frames.specs.Layout.{layout, tablesLength}
+use Rattle.frames.specs.Code.Marks.{markedBy}
 use lib.Dec.{eqb}
 use mathlib.Core.Bool.{cond}
 use mathlib.Core.List.{List}
 use borrow.Author.Tests.{not-true, not-false}
 use Rattle.frames.specs.declared.Fault.the-variants.{Misplaced}
 use Rattle.frames.specs.declared.OneText.{OneText}
-use Rattle.frames.specs.Steps.{Going}
-use Rattle.frames.specs.GoingLaws.{going-is, going-open, going-low, going-few, going-marks, going-fault}
-use Rattle.frames.specs.OneLaws.{one-starts, one-short, one-stops, one-goes-on, one-refused, one-read-whole, line-at, next-at, lent-line, next-rest, going-method}
-use Rattle.frames.specs.StepLaws.{zeros-are, is-end-true, is-end-false, is-sound-true, is-sound-false}
-use Rattle.frames.specs.Lines.{lines}
+use Rattle.frames.specs.Code.Steps.{Going}
+use Rattle.frames.specs.Laws.Going.{going-is, going-open, going-low, going-few, going-marks, going-fault}
+use Rattle.frames.specs.Laws.OneText.{one-starts, one-short, one-stops, one-goes-on, one-refused, one-read-whole, next-at, lent-line, next-rest, going-method}
+use Rattle.frames.specs.Laws.Steps.{is-end-true, is-end-false, is-sound-true, is-sound-false}
+use Rattle.lines.specs.Lines.{lines}
 use lib.ListN.{length, drop}
 use Prim.Native.Nat.{ℕ, _-_}
 use borrow.Author.Needs.{needs}
@@ -21,6 +22,9 @@ use Rattle.frames.specs.Tables.{cell}
 use mathlib.Core.Path.{refl, sym, ap, _∙_}
 use native.Mathlib.Omega.{arith}
 use Rattle.frames.proofs.reading.read_one.Statement.{statement}
+use Rattle.counting.specs.Counting.{zeros}
+use Rattle.lines.specs.Laws.Lines.{line-at}
+use Rattle.counting.specs.Laws.Lists.{zeros-are}
 use Rattle.frames.proofs.reading.read_one.Tie as tie
 
 abbrev Inv-loop : tie.InvT-loop
@@ -31,7 +35,7 @@ abbrev μ-loop : tie.MeasureT-loop
 μ-loop text start tables₀ named₀ place₀ i₀ stand₀ tables named place i stand = length text - place .at
 
 loop-holds : tie.Need-loop-holds Inv-loop μ-loop
-loop-holds c = one-starts _ _ _ _ (zeros-are 24213) (zeros-are 1024)
+loop-holds c = one-starts _ _ _ _ (zeros-are tablesLength) (zeros-are (layout .mostNodes))
 
 slice-aggregate-due : tie.Need-slice-aggregate-due Inv-loop μ-loop
 slice-aggregate-due c = sym (c .before .loop .inv .wide)
@@ -176,7 +180,7 @@ loop-again c =
     one-goes-on go _ its _ is more (sym same ∙ ok) _ _ (next-rest text ls (c .before .before .before .before .before .before .before .before .before .before .before .before .before .before .before .before .before .loop .place) (c .before .before .before .before .before .before .before .before .before .before .before .past-line .result) (c .before .before .before .before .before .before .before .before .before .before .before .before .before .before .before .before .before .loop .i) (c .before .before .before .before .before .before .before .before .before .before .before .before .if2 .left) (go .rest) n)
     (line-at text ls (c .before .before .before .before .before .before .before .before .before .before .before .before .before .before .before .before .before .loop .place .at) (c .before .before .before .before .before .before .before .before .before .before .before .before .before .before .before .before .before .loop .i) (c .before .before .before .before .before .before .before .before .before .before .before .before .if2 .left) (go .rest) .inside) (n .line) _ tb _ (c .before .next-stand .ensures) _
     (c .marks-for .ensures
-    ∙ ap (λ (x : List ℕ). cond (eqb (c .before .next-stand .result .number) 0) (zeros 1024) x)
+    ∙ ap (λ (x : List ℕ). cond (eqb (c .before .next-stand .result .number) 0) (zeros (layout .mostNodes)) x)
     (c .before .before .before .before .before .before .before .take-line .ensures .marks ok ∙ ap (λ (u : List ℕ). markedBy (cell u) (c .before .before .before .before .before .before .before .before .before .before .before .before .before .before .before .before .before .loop .named) (c .before .before .before .before .before .before .before .before .before .before .before .before .before .before .before .due .result) (c .before .before .before .before .before .before .before .before .before .before .before .before .before .before .before .before .before .loop .i)) (sym tb)))
 
 pub read-one-spec : {M : Type 1} → statement M

@@ -1,8 +1,9 @@
 -- `take_line` meets its contract: 3 before 4 before 5 before 6.
 -- Assumes nothing.
-use Rattle.frames.specs.StepLaws.{placed-short}
-use Rattle.frames.specs.StepLaws.{taken-malformed, taken-misplaced, taken}
-use Rattle.frames.specs.Lines.{bytes}
+use Rattle.frames.specs.Layout.{layout}
+use Rattle.frames.specs.Laws.Steps.{placed-short}
+use Rattle.frames.specs.Laws.Steps.{taken-malformed, taken-misplaced, taken}
+use Rattle.lines.specs.Lines.{bytes}
 use lib.Seq.{paste}
 use Prim.Native.Nat.{_*_}
 use borrow.Author.Tests.{not-true, not-false}
@@ -43,7 +44,7 @@ returns-3 : tie.Need-returns-3
 returns-3 c =
     let a = c .before .before .before .before .before .before .before .before .before .before .before .before .before .before .before .before .args in
     taken _ _ _ _ _ _ _ _ _ _ (omega arith) (sym (c .before .before .before .before .before .before .before .before .before .before .placed .ensures) ∙ not-false _ (c .before .before .before .before .before .before .before .before .before .if2 .left))
-    (c .before .before .before .before .before .before .before .store .ensures ∙ ap (paste (now (a .tables)) (a .i * 21) (bytes (now (a .line)))) (c .before .before .before .before .before .before .before .before .before .before .before .before .frame-length .ensures)) (c .before .before .frame-fault .ensures)
+    (c .before .before .before .before .before .before .before .store .ensures ∙ ap (paste (now (a .tables)) (a .i * layout .stride) (bytes (now (a .line)))) (c .before .before .before .before .before .before .before .before .before .before .before .before .frame-length .ensures)) (c .before .before .frame-fault .ensures)
 
 pub take-line-spec : {M : Type 1} → statement M
 take-line-spec =

@@ -1,16 +1,17 @@
 -- `too_many` meets its contract: the line there is malformed or misplaced.
 -- Assumes nothing.
-use Rattle.frames.specs.WholeLaws.{past-line, surplus-bad, surplus-good}
+use Rattle.frames.specs.Laws.WholeText.{surplus-bad, surplus-good}
 use Rattle.frames.specs.declared.Outcome.{Outcome}
-use Rattle.frames.specs.Steps.{lineFrom}
 use Rattle.frames.specs.Reading.{noTables}
-use Rattle.frames.specs.Lines.{frameLength}
+use Rattle.lines.specs.Lines.{frameLength}
 use lib.ListN.{take, drop}
 use Prim.Native.Nat.{ℕ}
 use denote.Ref.{now}
 use mathlib.Core.Path.{sym, ap, _∙_}
 use borrow.Author.Needs.{needs}
 use Rattle.frames.proofs.reading.too_many.Statement.{statement}
+use Rattle.lines.specs.Laws.Places.{past-line}
+use Rattle.lines.specs.Places.{lineFrom}
 use Rattle.frames.proofs.reading.too_many.Tie as tie
 
 past-line-requires : tie.Need-past-line-requires

@@ -4,7 +4,7 @@ use native.Mathlib.Omega.{arith}
 use borrow.Author.Needs.{needs}
 use mathlib.Core.Path.{sym}
 use Rattle.grades.specs.Access.{readAccess}
-use Rattle.grades.specs.AccessLaws.{byGuard-other}
+use Rattle.grades.specs.Laws.Access.{byGuard-other}
 use Rattle.grades.proofs.access.read_access.Statement.{statement}
 use Rattle.grades.proofs.access.read_access.Tie as tie
 

@@ -2,7 +2,7 @@
 -- Assumes nothing.
 use mathlib.Core.Path.{sym, ap, _∙_}
 use Rattle.grades.specs.Grades.{cap, assertAtomic}
-use Rattle.grades.specs.GradeLaws.{assert-stays}
+use Rattle.grades.specs.Laws.Grades.{assert-stays}
 use borrow.Author.Needs.{needs}
 use Rattle.grades.proofs.arithmetic.assert_atomic.Statement.{statement}
 use Rattle.grades.proofs.arithmetic.assert_atomic.Tie as tie

@@ -2,7 +2,7 @@
 -- Assumes nothing.
 use mathlib.Core.Path.{sym, ap, _∙_}
 use Rattle.grades.specs.Grades.{cap, closure}
-use Rattle.grades.specs.GradeLaws.{closure-stays}
+use Rattle.grades.specs.Laws.Grades.{closure-stays}
 use borrow.Author.Needs.{needs}
 use Rattle.grades.proofs.arithmetic.closure.Statement.{statement}
 use Rattle.grades.proofs.arithmetic.closure.Tie as tie

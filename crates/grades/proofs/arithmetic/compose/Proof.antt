@@ -5,8 +5,8 @@ use mathlib.Core.Path.{ap₂}
 use mathlib.Core.List.{[]}
 use lib.ListN.{getD}
 use Prim.Native.Nat.{ℕ}
-use Rattle.grades.specs.Grades.{cap, composition, compose}
-use Rattle.grades.specs.GradeLaws.{cap-error}
+use Rattle.grades.specs.Grades.{composition, compose}
+use Rattle.grades.specs.Laws.Grades.{cap-error}
 use borrow.Author.Needs.{needs}
 use Rattle.grades.proofs.arithmetic.compose.Statement.{statement}
 use Rattle.grades.proofs.arithmetic.compose.Tie as tie

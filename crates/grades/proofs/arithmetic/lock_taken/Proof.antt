@@ -1,7 +1,7 @@
 -- `grades::arithmetic::lock_taken` meets its contract: two laws say which grades become atomic and which stay.
 -- Assumes nothing.
 use mathlib.Core.Path.{sym, _∙_}
-use Rattle.grades.specs.GradeLaws.{lockTaken-stays, lockTaken-atomic}
+use Rattle.grades.specs.Laws.Grades.{lockTaken-stays, lockTaken-atomic}
 use borrow.Author.Needs.{needs}
 use Rattle.grades.proofs.arithmetic.lock_taken.Statement.{statement}
 use Rattle.grades.proofs.arithmetic.lock_taken.Tie as tie

@@ -2,7 +2,7 @@
 -- puts in its bit where the caller holds it.
 -- Assumes nothing.
 use Prim.Native.Nat.{ℕ, _+_, _≤_, _<_, _-_}
-use mathlib.Core.Bool.{Bool, true, false}
+use mathlib.Core.Bool.{Bool, true, false, cond}
 use mathlib.Core.List.{List}
 use native.Mathlib.Numerals.{add-one}
 use borrow.Author.Tests.{lt-ltb}
@@ -13,16 +13,16 @@ use denote.Ref.{now}
 use mathlib.Core.Logic.{⊎-elim}
 use lib.Seq.{take-all}
 use lib.ListN.{length, getD, take}
-use Rattle.grades.specs.HeldSets.{held, pickSet, add, addWithin, calleeSet}
+use Rattle.grades.specs.HeldSets.{held, add, addWithin, calleeSet}
 use Rattle.grades.proofs.Masks.{callee-more}
 use Rattle.grades.proofs.held.callee_set.Statement.{statement}
 use Rattle.grades.proofs.held.callee_set.Tie as tie
 
 more : (set : ℕ) (names : List ℕ) (j mask : ℕ) (b : Bool) → j < 8 → j < length names → mask ≡ calleeSet set (take j names)
-    → b ≡ held set (getD names j 0) → pickSet b (addWithin 8 mask j) mask ≡ calleeSet set (take (j + 1) names)
+    → b ≡ held set (getD names j 0) → cond b (addWithin 8 mask j) mask ≡ calleeSet set (take (j + 1) names)
 unfolding addWithin
 more set names j mask b few within e h =
-    rw (lt-ltb j 8 few, add-one, callee-more set names j 0 within) (ap₂ (λ (x : Bool) (m : ℕ). pickSet x (add m j) m) h e)
+    rw (lt-ltb j 8 few, add-one, callee-more set names j 0 within) (ap₂ (λ (x : Bool) (m : ℕ). cond x (add m j) m) h e)
 
 abbrev Inv-loop : tie.InvT-loop
 Inv-loop set names mask₀ j₀ mask j = (j ≤ 8) × (j ≤ length names) × (mask ≡ calleeSet set (take j names))
@@ -66,7 +66,7 @@ loop-again c =
     let a = c .before .before .before .before .before .before .before .args in
     let at = c .before .before .before .before .before .loop in
     let holds = c .before .holds in
-    let one : (b : Bool) → holds .result ≡ b → pickSet b (addWithin 8 (at .mask) (at .j)) (at .mask) ≡ calleeSet (a .set) (take (at .j + 1) (now (a .names)))
+    let one : (b : Bool) → holds .result ≡ b → cond b (addWithin 8 (at .mask) (at .j)) (at .mask) ≡ calleeSet (a .set) (take (at .j + 1) (now (a .names)))
     = λ b e. more (a .set) (now (a .names)) (at .j) (at .mask) b (omega arith) (omega arith) (at .inv .2) (sym e ∙ holds .ensures) in (
       search needs,
       search needs,

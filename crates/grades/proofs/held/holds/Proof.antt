@@ -2,7 +2,7 @@
 -- Assumes nothing.
 use mathlib.Core.Path.{sym}
 use Rattle.grades.proofs.Masks.{shifted-bit}
-use Rattle.grades.specs.HeldLaws.{held-past}
+use Rattle.grades.specs.Laws.HeldSets.{held-past}
 use borrow.Author.Needs.{needs}
 use Rattle.grades.proofs.held.holds.Statement.{statement}
 use Rattle.grades.proofs.held.holds.Tie as tie

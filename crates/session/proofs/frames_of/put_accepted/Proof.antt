@@ -7,7 +7,7 @@ use Rattle.frames.specs.Program.{Program}
 use Rattle.checker.specs.declared.Verdict.the-variants.{Accepted}
 use Rattle.session.specs.Page.{putAt}
 use Rattle.session.specs.Session.{sessionBy}
-use Rattle.session.specs.SessionLaws.{stands}
+use Rattle.session.specs.Laws.Session.{stands}
 use borrow.Author.Needs.{needs}
 use Rattle.session.proofs.frames_of.put_accepted.Statement.{statement}
 use Rattle.session.proofs.frames_of.put_accepted.Tie as tie

@@ -6,11 +6,12 @@ use mathlib.Core.Path.{_≡_}
 use native.Mathlib.Omega.{arith}
 use lib.ListN.{length}
 use denote.Ref.{now}
+use Rattle.frames.specs.Layout.{layout}
 use Rattle.session.specs.Writing.{lineOf}
-use Rattle.session.specs.WritingLaws.{length-line}
-use Rattle.session.specs.PageLaws.{put-behind}
+use Rattle.session.specs.Laws.Writing.{length-line}
+use Rattle.session.specs.Laws.Page.{put-behind}
 use Rattle.session.specs.Session.{answerFrame}
-use Rattle.session.specs.SessionLaws.{answer-bytes, renamed}
+use Rattle.session.specs.Laws.Session.{answer-bytes, renamed}
 use borrow.Author.Needs.{needs}
 use Rattle.session.proofs.frames_of.put_answer.Statement.{statement}
 use Rattle.session.proofs.frames_of.put_answer.Tie as tie
@@ -47,7 +48,7 @@ returns c =
     let long = length-line frame in
     let line = c .before .before .before .before .before .before .put-line .ensures in
     let lines = c .before .before .put-methods .ensures in
-    let small : a .methods ≤ 64 = omega (arith, pre .0 .fewMethods, pre .1 .0) in
+    let small : a .methods ≤ layout .mostMethods = omega (arith, pre .0 .fewMethods, pre .1 .0) in
     let own = answer-bytes (a .methods) (a .rounds) _ _ _ (omega arith) (c .before .before .before .before .before .before .before .before .before .before .before .low .ensures) (c .before .before .before .before .before .before .before .before .before .before .high .ensures) (c .before .before .before .before .before .before .before .before .before .low2 .ensures) in
     let head = renamed (now (a .page)) frame _ _ _ own (line .0) (line .1) in
     let place : c .before .before .before .before .before .before .put-line .result ≡ 0 + length (lineOf (answerFrame (a .methods) (a .rounds))) = omega (arith, head .0) in

@@ -3,8 +3,8 @@
 use Prim.Native.Nat.{_+_, _*_, _-_}
 use native.Mathlib.Omega.{arith}
 use denote.Ref.{now}
-use Rattle.session.specs.PageLaws.{parts-put}
-use Rattle.session.specs.SessionLaws.{frame-parts, frame-short}
+use Rattle.session.specs.Laws.Page.{parts-put}
+use Rattle.session.specs.Laws.Session.{frame-parts, frame-short}
 use borrow.Author.Needs.{needs}
 use Rattle.session.proofs.frames_of.put_method.Statement.{statement}
 use Rattle.session.proofs.frames_of.put_method.Tie as tie

@@ -8,16 +8,16 @@ use lib.ListN.{length}
 use denote.Ref.{now}
 use Rattle.frames.specs.Tables.{cell, programOf}
 use Rattle.session.specs.Page.{putAt}
-use Rattle.session.specs.PageLaws.{put-none, put-behind, length-put}
-use Rattle.session.specs.Session.{methodLines}
-use Rattle.session.specs.SessionLaws.{lines-more}
+use Rattle.session.specs.Laws.Page.{put-none, put-behind, length-put}
+use Rattle.session.specs.Session.{longestMethod, methodLines}
+use Rattle.session.specs.Laws.Session.{lines-more}
 use Rattle.session.proofs.frames_of.put_methods.Statement.{statement}
 use Rattle.session.proofs.frames_of.put_methods.Tie as tie
 
 abbrev Inv-loop : tie.InvT-loop
 Inv-loop tables answer methods page₀ at place₀ m₀ page place m =
     (page ≡ putAt page₀ at (methodLines (programOf (cell tables)) answer m))
-    × ((place ≡ at + length (methodLines (programOf (cell tables)) answer m)) × ((place ≤ at + 39 * m) × (m ≤ methods)))
+    × ((place ≡ at + length (methodLines (programOf (cell tables)) answer m)) × ((place ≤ at + longestMethod * m) × (m ≤ methods)))
 
 abbrev μ-loop : tie.MeasureT-loop
 μ-loop tables answer methods page₀ at place₀ m₀ page place m = methods - m

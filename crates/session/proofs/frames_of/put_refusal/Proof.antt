@@ -4,8 +4,8 @@ use native.Mathlib.Omega.{arith}
 use denote.Ref.{now}
 use mathlib.Core.List.{[], _∷_}
 use Rattle.checker.specs.Grading.{Numbers}
-use Rattle.session.specs.WritingLaws.{length-line}
-use Rattle.session.specs.SessionLaws.{refusal-bytes, renamed}
+use Rattle.session.specs.Laws.Writing.{length-line}
+use Rattle.session.specs.Laws.Session.{refusal-bytes, renamed}
 use borrow.Author.Needs.{needs}
 use Rattle.session.proofs.frames_of.put_refusal.Statement.{statement}
 use Rattle.session.proofs.frames_of.put_refusal.Tie as tie

@@ -7,7 +7,7 @@ use mathlib.Core.Path.{_≡_, ap, _∙_}
 use native.Mathlib.Omega.{arith}
 use lib.ListN.{length, getD, take, set}
 use Rattle.session.specs.Page.{putAt}
-use Rattle.session.specs.PageLaws.{put-none, copy-more, copy-length}
+use Rattle.session.specs.Laws.Page.{put-none, copy-more, copy-length}
 use Rattle.session.proofs.writing.copy.Statement.{statement}
 use Rattle.session.proofs.writing.copy.Tie as tie
 

@@ -1,7 +1,7 @@
 -- `end_line` meets its contract: one store.
 -- Assumes nothing.
 use mathlib.Core.Path.{refl}
-use Rattle.session.specs.PageLaws.{put-one}
+use Rattle.session.specs.Laws.Page.{put-one}
 use borrow.Author.Needs.{needs}
 use Rattle.session.proofs.writing.end_line.Statement.{statement}
 use Rattle.session.proofs.writing.end_line.Tie as tie

@@ -8,7 +8,7 @@ use Rattle.session.specs.Writing.{digitsOf}
 use Rattle.session.specs.Page.{putAt}
 use native.Mathlib.Omega.{arith}
 use lib.ListN.{length-set}
-use Rattle.session.specs.PageLaws.{put-two}
+use Rattle.session.specs.Laws.Page.{put-two}
 use borrow.Author.Needs.{needs}
 use Rattle.session.proofs.writing.put_byte.Statement.{statement}
 use Rattle.session.proofs.writing.put_byte.Tie as tie

@@ -9,7 +9,7 @@ use lib.ListN.{length, getD, take}
 use lib.Seq.{take-length}
 use Rattle.session.specs.Writing.{digitsOf}
 use Rattle.session.specs.Page.{putAt}
-use Rattle.session.specs.PageLaws.{put-none, digits-more, digits-length}
+use Rattle.session.specs.Laws.Page.{put-none, digits-more, digits-length}
 use Rattle.session.proofs.writing.put_bytes.Statement.{statement}
 use Rattle.session.proofs.writing.put_bytes.Tie as tie
 

@@ -1,6 +1,6 @@
 -- `put_line` meets its contract: the digits, and the 0A behind them.
 -- Assumes nothing.
-use Rattle.session.specs.PageLaws.{line-put}
+use Rattle.session.specs.Laws.Page.{line-put}
 use borrow.Author.Needs.{needs}
 use Rattle.session.proofs.writing.put_line.Statement.{statement}
 use Rattle.session.proofs.writing.put_line.Tie as tie

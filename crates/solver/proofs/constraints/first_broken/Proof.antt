@@ -10,29 +10,30 @@ use mathlib.Core.List.{_++_}
 use mathlib.Core.Logic.{_⊎_, ⊎-elim}
 use Rattle.frames.specs.Frames.{methodsIn}
 use Rattle.frames.specs.Tables.{cell}
-use Rattle.meaning.specs.Counting.{upTo}
-use Rattle.meaning.specs.Constraints.{firstBroken, closedOf, verdict}
-use Rattle.solver.specs.Engine.{programIn, tablesIn}
-use Rattle.solver.specs.Verdicts.{found}
-use Rattle.solver.specs.VerdictLaws.{listsFrom, methods-all, lists-next, lists-end, second-broken, first-kept}
-use Rattle.solver.specs.declared.constraints.Verdict.{Verdict}
-use Rattle.solver.specs.declared.constraints.Verdict.the-variants.{Met}
-use Rattle.solver.proofs.constraints.Verdict.{enum}
+use Rattle.counting.specs.Counting.{upTo}
+use Rattle.meaning.specs.Constraints.{firstBroken, closedOf, finding}
+use Rattle.solver.specs.Code.Engine.{tablesIn}
+use Rattle.solver.specs.Laws.Findings.{listsFrom, methods-all, lists-next, lists-end, second-broken, first-kept}
+use Rattle.solver.specs.declared.constraints.Finding.{Finding}
+use Rattle.solver.specs.declared.constraints.Finding.the-variants.{Met}
+use Rattle.solver.proofs.constraints.Finding.{enum}
 use Rattle.solver.proofs.constraints.first_broken.Statement.{statement}
+use Rattle.solver.specs.Flat.{programIn}
+use Rattle.solver.specs.Findings.{found}
 use Rattle.solver.proofs.constraints.first_broken.Tie as tie
 
--- a verdict with the number of another variant is not that all is met
-abbrev tag : Verdict → ℕ
+-- a finding with the number of another variant is not that all is met
+abbrev tag : Finding → ℕ
 tag v = tagOf (declared enum) v
 
-not-met : (v : Verdict) → (tag v ≡ 0) ⊎ (tag v ≡ 2) → v ≡ Met → ⊥
+not-met : (v : Finding) → (tag v ≡ 0) ⊎ (tag v ≡ 2) → v ≡ Met → ⊥
 not-met v t e =
     ⊎-elim (λ z. let same : 1 ≡ 0 = ap tag (sym e) ∙ z in absurd (omega arith)) (λ z. let same : 1 ≡ 2 = ap tag (sym e) ∙ z in absurd (omega arith)) t
 
 abbrev Inv-loop : tie.InvT-loop
 Inv-loop tables grades starts methods m₀ m =
     (methods ≡ methodsIn (cell tables)) × (m ≤ methods)
-    × (verdict (programIn tables) (tablesIn grades) (upTo (methodsIn (cell tables))) ≡ firstBroken (programIn tables) (tablesIn grades) (listsFrom (closedOf (programIn tables)) m (methods - m)))
+    × (finding (programIn tables) (tablesIn grades) (upTo (methodsIn (cell tables))) ≡ firstBroken (programIn tables) (tablesIn grades) (listsFrom (closedOf (programIn tables)) m (methods - m)))
 
 abbrev μ-loop : tie.MeasureT-loop
 μ-loop tables grades starts methods m₀ m = methods - m
@@ -45,7 +46,7 @@ loop-holds c =
     let a = c .before .before .before .before .args in (
       c .methods .ensures .is,
       omega arith,
-      ap (λ (n : ℕ). verdict (programIn (now (a .tables))) (tablesIn (now (a .grades))) (upTo n)) (sym (c .methods .ensures .is))
+      ap (λ (n : ℕ). finding (programIn (now (a .tables))) (tablesIn (now (a .grades))) (upTo n)) (sym (c .methods .ensures .is))
           ∙ methods-all (programIn (now (a .tables))) (tablesIn (now (a .grades))) (c .methods .result),
     )
 
@@ -73,7 +74,7 @@ returns c =
     let at = c .before .before .before .before .loop in
     let methods = c .before .before .before .before .before .methods .result in
     let rest = listsFrom (closedOf p) (at .m + 1) (methods - (at .m + 1)) in
-    let now-due : verdict p g (upTo (methodsIn (cell (now (a .tables))))) ≡ firstBroken p g (closedOf p (at .m) ++ rest)
+    let now-due : finding p g (upTo (methodsIn (cell (now (a .tables))))) ≡ firstBroken p g (closedOf p (at .m) ++ rest)
     = at .inv .2 ∙ ap (firstBroken p g) (lists-next (closedOf p) (at .m) methods (omega arith)) in
     first-kept p g (closedOf p (at .m)) rest (c .before .method-broken .result) (c .before .method-broken .ensures) (not-met (c .before .method-broken .result) (c .match .keys2))
     ∙ ap found (sym now-due)
@@ -92,7 +93,7 @@ loop-again c =
     let at = c .before .before .before .before .before .loop in
     let methods = c .before .before .before .before .before .before .methods .result in
     let rest = listsFrom (closedOf p) (at .m + 1) (methods - (at .m + 1)) in
-    let now-due : verdict p g (upTo (methodsIn (cell (now (a .tables))))) ≡ firstBroken p g (closedOf p (at .m) ++ rest)
+    let now-due : finding p g (upTo (methodsIn (cell (now (a .tables))))) ≡ firstBroken p g (closedOf p (at .m) ++ rest)
     = at .inv .2 ∙ ap (firstBroken p g) (lists-next (closedOf p) (at .m) methods (omega arith)) in
     (at .inv .0, omega arith, now-due ∙ second-broken p g (closedOf p (at .m)) rest (sym (c .before .before .method-broken .ensures) ∙ c .enum-told .given .1))
 

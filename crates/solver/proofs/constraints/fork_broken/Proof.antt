@@ -8,15 +8,10 @@ use denote.Ref.{now}
 use Prim.Native.Nat.{ℕ, _+_, _-_, _≤_, _<_, _^_}
 use borrow.Author.Count.{below-more}
 use lib.ListN.{getD}
-use Rattle.frames.specs.Program.{Method}
-use Rattle.frames.specs.Tables.{cell, methodOf}
-use Rattle.meaning.specs.Meaning.{rootTable}
-use Rattle.meaning.specs.Lowest.{declaredTable, entryCount}
-use Rattle.solver.specs.Engine.{programIn, tablesIn}
-use Rattle.solver.specs.Views.{method-in}
-use Rattle.solver.specs.FlatLaws.{entry-count, few-entries}
-use Rattle.solver.specs.VerdictLaws.{Quiet, quiet-low, quiet-free, fork-is, declared-is, declared-entry, sets-few}
+use Rattle.solver.specs.Code.Engine.{tablesIn}
+use Rattle.solver.specs.Laws.Findings.{Quiet, quiet-low, quiet-free, fork-is, sets-few}
 use Rattle.solver.proofs.constraints.fork_broken.Statement.{statement}
+use Rattle.solver.specs.Flat.{programIn}
 use Rattle.solver.proofs.constraints.fork_broken.Tie as tie
 
 abbrev Inv-loop : tie.InvT-loop

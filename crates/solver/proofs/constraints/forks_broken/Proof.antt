@@ -8,15 +8,16 @@ use Prim.Native.Nat.{ℕ, _+_, _-_, _≤_, _<_, _^_}
 use mathlib.Core.Logic.{⊎-elim}
 use Rattle.frames.specs.Links.{nodeCount}
 use Rattle.frames.specs.Tables.{cell}
-use Rattle.frames.specs.TableLaws.{nodes-length}
+use Rattle.frames.specs.Laws.Tables.{nodes-length}
 use Rattle.meaning.specs.Constraints.{firstBroken, forksOf, forkAt, forkedTable, namedMethod}
-use Rattle.meaning.specs.Counting.{onlyIf}
+use Rattle.counting.specs.Counting.{onlyIf}
 use mathlib.Core.List.{_++_}
 use Rattle.meaning.specs.Lowest.{entryCount}
-use Rattle.solver.specs.Engine.{programIn, tablesIn}
-use Rattle.solver.specs.Verdicts.{found}
-use Rattle.solver.specs.VerdictLaws.{listsFrom, forkOf, forks-all, lists-next, lists-end, is-fork, no-fork, fork-names, fork-set, if-not, if-broken, if-met}
+use Rattle.solver.specs.Code.Engine.{tablesIn}
+use Rattle.solver.specs.Laws.Findings.{listsFrom, forkOf, forks-all, lists-next, lists-end, is-fork, no-fork, fork-names, fork-set, if-not, if-broken, if-met}
 use Rattle.solver.proofs.constraints.forks_broken.Statement.{statement}
+use Rattle.solver.specs.Flat.{programIn}
+use Rattle.solver.specs.Findings.{found}
 use Rattle.solver.proofs.constraints.forks_broken.Tie as tie
 
 abbrev Inv-loop : tie.InvT-loop

@@ -8,15 +8,16 @@ use mathlib.Core.Logic.{⊎-elim}
 use mathlib.Core.List.{List, _++_}
 use borrow.Author.Tests.{eq-eqb, ne-eqb}
 use lib.Dec.{eqb}
-use Rattle.meaning.specs.Counting.{onlyIf}
-use Rattle.meaning.specs.Constraints.{Closed, firstBroken, closedOf, forksOf, declaredRoot, mainTable}
-use Rattle.meaning.specs.Lowest.{isDeclared, entryCount}
-use Rattle.solver.specs.Engine.{programIn, tablesIn}
-use Rattle.solver.specs.FlatLaws.{fixed-declared}
-use Rattle.solver.specs.Verdicts.{found}
-use Rattle.solver.specs.VerdictLaws.{if-not, if-broken, if-met}
+use Rattle.counting.specs.Counting.{onlyIf}
+use Rattle.meaning.specs.Constraints.{firstBroken, closedOf, forksOf, declaredRoot, mainTable}
+use Rattle.meaning.specs.Lowest.{isDeclared}
+use Rattle.solver.specs.Code.Engine.{tablesIn}
+use Rattle.solver.specs.Laws.Flat.{fixed-declared}
+use Rattle.solver.specs.Laws.Findings.{if-not, if-broken, if-met}
 use borrow.Author.Needs.{needs}
 use Rattle.solver.proofs.constraints.method_broken.Statement.{statement}
+use Rattle.solver.specs.Flat.{programIn}
+use Rattle.solver.specs.Findings.{found}
 use Rattle.solver.proofs.constraints.method_broken.Tie as tie
 
 -- a method that is not declared, and one whose declared table holds, go on to kind 2

@@ -3,7 +3,7 @@
 use mathlib.Core.Path.{_≡_, refl, sym, ap, ap₂, _∙_, subst}
 use native.Mathlib.Omega.{arith}
 use denote.Ref.{now}
-use Rattle.solver.specs.VerdictLaws.{sets-read}
+use Rattle.solver.specs.Laws.Findings.{sets-read}
 use borrow.Author.Needs.{needs}
 use Rattle.solver.proofs.constraints.sets_of.Statement.{statement}
 use Rattle.solver.proofs.constraints.sets_of.Tie as tie

@@ -8,11 +8,12 @@ use mathlib.Core.Path.{_≡_, sym, _∙_}
 use denote.Ref.{now}
 use Rattle.frames.specs.Program.{Node, Program}
 use Rattle.meaning.specs.Meaning.{Assignment, below}
-use Rattle.solver.specs.Engine.{programIn, tablesIn, nodesFrom}
-use Rattle.meaning.specs.MeaningLaws.{below-meaning, below-none}
-use Rattle.solver.specs.EngineLaws.{assembled}
+use Rattle.solver.specs.Code.Engine.{tablesIn, nodesFrom}
+use Rattle.meaning.specs.Laws.Meaning.{below-meaning, below-none}
+use Rattle.solver.specs.Laws.Engine.{assembled}
 use borrow.Fn.Kinds.{In}
 use borrow.Fn.PlainCycle.{Measures, is, falls, and}
+use Rattle.solver.specs.Flat.{programIn}
 use Rattle.solver.proofs.node.node_grade.Reads as node-grade
 use Rattle.solver.proofs.node.node_grade.Kinds as node-grade-kinds
 use Rattle.solver.proofs.node.+node_grade.Lts-node_grade as node-grade-lts

@@ -5,8 +5,8 @@ use native.Mathlib.Omega.{arith}
 use Prim.Native.Nat.{ℕ, min}
 use lib.ListN.{length, take, length-take}
 use denote.Ref.{now}
-use Rattle.solver.specs.Engine.{programIn, nodeIn, tablesIn}
-use Rattle.solver.specs.Views.{entry-read}
+use Rattle.solver.specs.Code.Engine.{tablesIn}
+use Rattle.solver.specs.Laws.Views.{entry-read}
 use borrow.Author.Needs.{needs}
 use Rattle.solver.proofs.node.callee_grade.Statement.{statement}
 use Rattle.solver.proofs.node.callee_grade.Tie as tie

@@ -4,11 +4,9 @@ use mathlib.Core.Path.{_≡_, refl, sym, ap, ap₂, _∙_}
 use borrow.Author.Tests.{lt-ltb, le-ltb}
 use denote.Ref.{now}
 use Prim.Native.Nat.{ℕ}
-use mathlib.Core.Bool.{Bool, cond}
 use lib.Dec.{ltb}
-use Rattle.frames.specs.Ranges.{childrenListed}
-use Rattle.solver.specs.Engine.{nodeIn, noChild}
-use Rattle.solver.specs.EngineLaws.{child-third, cond-yes, cond-no}
+use Rattle.solver.specs.Code.Engine.{nodeIn, noChild}
+use Rattle.solver.specs.Laws.Engine.{child-third, cond-yes, cond-no}
 use borrow.Author.Needs.{needs}
 use Rattle.solver.proofs.node.child_z.Statement.{statement}
 use Rattle.solver.proofs.node.child_z.Tie as tie

@@ -2,10 +2,10 @@
 -- Assumes nothing.
 use mathlib.Core.Path.{_≡_, refl, sym, ap, ap₂, _∙_}
 use native.Mathlib.Omega.{arith}
-use Rattle.meaning.specs.Meaning.{opOf, choose}
-use Rattle.solver.specs.Engine.{combined}
+use Rattle.meaning.specs.Meaning.{opOf}
+use Rattle.solver.specs.Code.Engine.{combined}
 use Rattle.grades.specs.Grades.{compose, closure}
-use Rattle.solver.specs.EngineLaws.{combined-plain, combined-past}
+use Rattle.solver.specs.Laws.Engine.{combined-plain, combined-past}
 use Prim.Native.Nat.{ℕ}
 use borrow.Author.Needs.{needs}
 use Rattle.solver.proofs.node.combined.Statement.{statement}

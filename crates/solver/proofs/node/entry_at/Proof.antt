@@ -5,14 +5,15 @@ use native.Mathlib.Omega.{arith}
 use borrow.Author.Tests.{lt-ltb, le-ltb}
 use lib.ListN.{getD, List·getD-eq-default}
 use denote.Ref.{now}
-use Rattle.solver.specs.Engine.{tablesIn}
+use Rattle.frames.specs.Layout.{layout}
+use Rattle.solver.specs.Code.Engine.{tablesIn}
 use borrow.Author.Needs.{needs}
 use Rattle.solver.proofs.node.entry_at.Statement.{statement}
 use Rattle.solver.proofs.node.entry_at.Tie as tie
 
 returns : tie.Need-returns
 unfolding tablesIn
-returns c = rw (le-ltb (c .before .args .h) 16 (c .if1 .taken))
+returns c = rw (le-ltb (c .before .args .h) (layout .grades) (c .if1 .taken))
 
 mul-at : tie.Need-mul-at
 mul-at c = search needs
@@ -22,14 +23,14 @@ add-at c = search needs
 
 returns-2 : tie.Need-returns-2
 unfolding tablesIn
-returns-2 c = rw (lt-ltb (c .before .before .args .h) 16 (c .before .if1 .left)) (sym (List·getD-eq-default (now (c .before .before .args .grades)) 0 (c .if2 .taken)))
+returns-2 c = rw (lt-ltb (c .before .before .args .h) (layout .grades) (c .before .if1 .left)) (sym (List·getD-eq-default (now (c .before .before .args .grades)) 0 (c .if2 .taken)))
 
 shared-slice-read-result : tie.Need-shared-slice-read-result
 shared-slice-read-result c = search needs
 
 returns-3 : tie.Need-returns-3
 unfolding tablesIn
-returns-3 c = rw (lt-ltb (c .before .before .before .args .h) 16 (c .before .before .if1 .left))
+returns-3 c = rw (lt-ltb (c .before .before .before .args .h) (layout .grades) (c .before .before .if1 .left))
 
 pub entry-at-spec : {M : Type 1} → statement M
 entry-at-spec =

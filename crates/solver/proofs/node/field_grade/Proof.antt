@@ -7,9 +7,9 @@ use Rattle.frames.specs.Frames.{fieldsIn}
 use Rattle.frames.specs.Program.{Field}
 use Rattle.frames.specs.Tables.{cell}
 use denote.Ref.{now}
-use Rattle.meaning.specs.Meaning.{fieldAt, fieldAccess}
-use Rattle.solver.specs.Engine.{programIn, nodeIn}
-use Rattle.solver.specs.Views.{field-past, no-field-access, access-read}
+use Rattle.meaning.specs.Meaning.{fieldAccess}
+use Rattle.solver.specs.Code.Engine.{nodeIn}
+use Rattle.solver.specs.Laws.Views.{field-past, no-field-access, access-read}
 use borrow.Author.Needs.{needs}
 use Rattle.solver.proofs.node.field_grade.Statement.{statement}
 use Rattle.solver.proofs.node.field_grade.Tie as tie

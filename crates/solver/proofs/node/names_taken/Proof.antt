@@ -6,12 +6,11 @@ use Prim.Native.Nat.{ℕ, _≤_, min}
 use Rattle.frames.specs.Frames.{methodsIn}
 use Rattle.frames.specs.Tables.{cell}
 use denote.Ref.{now}
-use Rattle.meaning.specs.Meaning.{noMethod, methodAt}
-use Rattle.solver.specs.Engine.{programIn}
-use Rattle.solver.specs.Views.{method-in, method-past}
-use Rattle.frames.specs.Program.{Method}
+use Rattle.solver.specs.Laws.Views.{method-in, method-past}
+use Rattle.frames.specs.Program.{noMethod, methodAt, Method}
 use borrow.Author.Needs.{needs}
 use Rattle.solver.proofs.node.names_taken.Statement.{statement}
+use Rattle.solver.specs.Flat.{programIn}
 use Rattle.solver.proofs.node.names_taken.Tie as tie
 
 methods-requires : tie.Need-methods-requires

@@ -3,11 +3,12 @@
 use mathlib.Core.Path.{_≡_, refl, sym, ap, ap₂, _∙_}
 use native.Mathlib.Omega.{arith}
 use Rattle.meaning.specs.Meaning.{opOf}
-use Rattle.solver.specs.Engine.{programIn, nodeIn, tablesIn, ownGrade}
+use Rattle.solver.specs.Code.Engine.{nodeIn, tablesIn}
 use denote.Ref.{now}
-use Rattle.solver.specs.EngineLaws.{own-none}
+use Rattle.solver.specs.Laws.Engine.{own-none}
 use borrow.Author.Needs.{needs}
 use Rattle.solver.proofs.node.own_grade.Statement.{statement}
+use Rattle.solver.specs.Flat.{programIn}
 use Rattle.solver.proofs.node.own_grade.Tie as tie
 
 field-grade-requires : tie.Need-field-grade-requires

@@ -8,12 +8,13 @@ use mathlib.Core.List.{[], _∷_}
 use Prim.Native.Nat.{ℕ}
 use Rattle.grades.specs.HeldSets.{held}
 use Rattle.frames.specs.Ranges.{childrenListed}
-use Rattle.meaning.specs.Meaning.{opOf, childSet, firstName}
-use Rattle.solver.specs.Engine.{LocksFit, programIn, nodeIn, tablesIn, ownGrade}
-use Rattle.solver.specs.Views.{first-name}
-use Rattle.solver.specs.EngineLaws.{set-by-name}
+use Rattle.meaning.specs.Meaning.{opOf, firstName}
+use Rattle.solver.specs.Code.Engine.{LocksFit, nodeIn, tablesIn, ownGrade}
+use Rattle.solver.specs.Laws.Views.{first-name}
+use Rattle.solver.specs.Laws.Engine.{set-by-name}
 use borrow.Author.Needs.{needs}
 use Rattle.solver.proofs.node.parts_of.Statement.{statement}
+use Rattle.solver.specs.Flat.{programIn}
 use Rattle.solver.proofs.node.parts_of.Tie as tie
 
 op-requires : tie.Need-op-requires

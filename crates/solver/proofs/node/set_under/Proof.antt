@@ -4,8 +4,8 @@ use mathlib.Core.Path.{_≡_, refl, sym, ap, ap₂, _∙_}
 use native.Mathlib.Omega.{arith}
 use borrow.Author.Tests.{lt-ltb, le-ltb}
 use mathlib.Core.List.{[], _∷_}
-use Rattle.meaning.specs.Meaning.{opOf, childSet, firstName}
-use Rattle.solver.specs.EngineLaws.{set-stays}
+use Rattle.meaning.specs.Meaning.{opOf, firstName}
+use Rattle.solver.specs.Laws.Engine.{set-stays}
 use Rattle.grades.specs.HeldSets.{addWithin}
 use borrow.Author.Needs.{needs}
 use Rattle.solver.proofs.node.set_under.Statement.{statement}

@@ -3,16 +3,16 @@
 use mathlib.Core.Path.{_≡_, sym, ap, ap₂, _∙_}
 use native.Mathlib.Omega.{arith}
 use denote.Ref.{now}
-use mathlib.Core.Bool.{Bool}
+use mathlib.Core.Bool.{Bool, _&&_}
 use Prim.Native.Nat.{ℕ, _-_}
 use native.Mathlib.Nat.{zero-add}
 use borrow.Author.Tests.{not-true, not-false}
-use Rattle.grades.specs.Everywhere.{both}
 use Rattle.frames.specs.Tables.{cell, firstFrame}
 use Rattle.frames.specs.Frames.{methodsIn}
-use Rattle.solver.specs.Engine.{firstNodeFrame, lastFrame}
-use Rattle.solver.specs.FlatLaws.{frames-rise}
-use Rattle.solver.specs.Room.{namesFit, locksFit, room-methods, room-frames, room-rest}
+use Rattle.solver.specs.Code.Engine.{firstNodeFrame, lastFrame}
+use Rattle.solver.specs.Laws.Flat.{frames-rise}
+use Rattle.solver.specs.Room.{namesFit, locksFit}
+use Rattle.solver.specs.Laws.Room.{room-methods, room-frames, room-rest}
 use borrow.Author.Needs.{needs}
 use Rattle.solver.proofs.room.has_room.Statement.{statement}
 use Rattle.solver.proofs.room.has_room.Tie as tie
@@ -39,7 +39,7 @@ returns-3 c = let t = now (c .before .before .before .before .before .before .be
     let last : c .before .before .before .first-frame .result ≡ lastFrame t = c .before .before .before .first-frame .ensures ∙ ap (firstFrame (cell t)) (c .before .before .before .before .before .methods .ensures .is) in
     let names = sym (c .before .names-fit .ensures ∙ ap (namesFit t) (c .before .before .before .before .before .methods .ensures .is)) ∙ not-true (c .before .names-fit .result) (c .if3 .taken) in
     sym (room-rest t (omega (arith, c .before .before .before .before .before .methods .ensures .is)) (omega arith)
-    ∙ ap (λ (x : Bool). both x (locksFit t (firstNodeFrame t) (lastFrame t - firstNodeFrame t))) names)
+    ∙ ap (λ (x : Bool). (x && locksFit t (firstNodeFrame t) (lastFrame t - firstNodeFrame t))) names)
 
 first-frame-requires-2 : tie.Need-first-frame-requires-2
 first-frame-requires-2 c κs = search needs
@@ -59,7 +59,7 @@ returns-4 c = let t = now (c .before .before .before .before .before .before .be
     let last : c .before .before .before .before .before .first-frame .result ≡ lastFrame t = c .before .before .before .before .before .first-frame .ensures ∙ ap (firstFrame (cell t)) (c .before .before .before .before .before .before .before .methods .ensures .is) in
     let names = sym (c .before .before .before .names-fit .ensures ∙ ap (namesFit t) (c .before .before .before .before .before .before .before .methods .ensures .is)) ∙ not-false (c .before .before .before .names-fit .result) (c .before .before .if3 .left) in
     let locks = sym (c .locks-fit .ensures ∙ ap₂ (locksFit t) (c .before .first-frame2 .ensures) (ap₂ (λ (x y : ℕ). x - y) last (c .before .first-frame2 .ensures))) in
-    sym (room-rest t (omega (arith, c .before .before .before .before .before .before .before .methods .ensures .is)) (omega arith) ∙ ap₂ both names locks)
+    sym (room-rest t (omega (arith, c .before .before .before .before .before .before .before .methods .ensures .is)) (omega arith) ∙ ap₂ _&&_ names locks)
 
 pub has-room-spec : {M : Type 1} → statement M
 has-room-spec =

@@ -7,8 +7,9 @@ use denote.Ref.{now}
 use mathlib.Core.Bool.{true}
 use mathlib.Core.Logic.{⊎-elim}
 use Prim.Native.Nat.{ℕ, _+_, _-_, _≤_, _<_}
-use Rattle.solver.specs.Room.{locksFit, lockFits, locks-none, locks-more, locks-fail, lock-other, lock-in, lock-past}
+use Rattle.solver.specs.Room.{locksFit, lockFits}
 use Rattle.solver.proofs.room.locks_fit.Statement.{statement}
+use Rattle.solver.specs.Laws.Room.{locks-none, locks-more, locks-fail, lock-other, lock-in, lock-past}
 use Rattle.solver.proofs.room.locks_fit.Tie as tie
 
 abbrev Inv-loop : tie.InvT-loop

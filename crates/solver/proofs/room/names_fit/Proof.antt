@@ -6,8 +6,9 @@ use borrow.Author.Needs.{needs}
 use denote.Ref.{now}
 use mathlib.Core.Bool.{true}
 use Prim.Native.Nat.{ℕ, _+_, _-_, _≤_, _<_}
-use Rattle.solver.specs.Room.{namesFit, names-none, names-more, names-fail}
+use Rattle.solver.specs.Room.{namesFit}
 use Rattle.solver.proofs.room.names_fit.Statement.{statement}
+use Rattle.solver.specs.Laws.Room.{names-none, names-more, names-fail}
 use Rattle.solver.proofs.room.names_fit.Tie as tie
 
 abbrev Inv-loop : tie.InvT-loop

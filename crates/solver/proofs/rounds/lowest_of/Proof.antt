@@ -10,25 +10,26 @@ use native.Mathlib.Omega.{arith}
 use borrow.Author.Needs.{needs}
 use denote.Ref.{now}
 use Prim.Native.Nat.{ℕ, suc, _+_, _*_, _-_}
+use Rattle.frames.specs.Layout.{layout}
 use Rattle.frames.specs.Frames.{methodsIn}
 use Rattle.frames.specs.Tables.{cell}
 use Rattle.meaning.specs.Lowest.{rounds}
-use Rattle.solver.specs.Engine.{programIn}
-use Rattle.solver.specs.Flat.{flat, Fits, Still, SameTo, roundTables}
-use Rattle.solver.specs.RoundLaws.{afterRounds, Rising, start-first, round-next, still-after, rising-more, stopped, stopped-tables, rising-bound, rounds-few}
+use Rattle.solver.specs.Flat.{programIn, flat}
+use Rattle.solver.specs.Laws.Rounds.{afterRounds, Rising, start-first, round-next, still-after, rising-more, stopped, stopped-tables, rising-bound, rounds-few}
 use Rattle.solver.proofs.rounds.lowest_of.Statement.{statement}
+use Rattle.solver.specs.Code.Rounds.{Fits, Still, SameTo, roundTables}
 use Rattle.solver.proofs.rounds.lowest_of.Tie as tie
 
 -- what the comparison says, of the rounds
-compared : (t : List ℕ) (fits : Fits t) (used n : ℕ) (old new : List ℕ) (r : Bool) → used ≡ 16 * methodsIn (cell t) → old ≡ flat (afterRounds t n)
-    → new ≡ roundTables t old → SameTo used old new r → SameTo (16 * methodsIn (cell t)) (flat (afterRounds t n)) (flat (afterRounds t (suc n))) r
+compared : (t : List ℕ) (fits : Fits t) (used n : ℕ) (old new : List ℕ) (r : Bool) → used ≡ layout .grades * methodsIn (cell t) → old ≡ flat (afterRounds t n)
+    → new ≡ roundTables t old → SameTo used old new r → SameTo (layout .grades * methodsIn (cell t)) (flat (afterRounds t n)) (flat (afterRounds t (suc n))) r
 compared t fits used n old new r u o e s =
     subst (λ (i : ℕ). SameTo i (flat (afterRounds t n)) (flat (afterRounds t (suc n))) r) u
     (subst₂ (λ (x y : List ℕ). SameTo used x y r) o (e ∙ ap (roundTables t) o ∙ round-next t fits n) s)
 
 abbrev Inv-loop : tie.InvT-loop
 Inv-loop tables starts used old₀ n₀ old n =
-    (used ≡ 16 * methodsIn (cell tables)) × (old ≡ flat (afterRounds tables n)) × Rising tables n
+    (used ≡ layout .grades * methodsIn (cell tables)) × (old ≡ flat (afterRounds tables n)) × Rising tables n
 
 abbrev μ-loop : tie.MeasureT-loop
 μ-loop tables starts used old₀ n₀ old n = rounds (programIn tables) + 1 - n
@@ -44,7 +45,7 @@ start-requires c κs = search needs
 
 loop-holds : tie.Need-loop-holds Inv-loop μ-loop
 loop-holds c =
-    (ap (λ (n : ℕ). 16 * n) (c .before .methods .ensures .is), c .start .ensures ∙ start-first (now (c .before .before .before .before .args .tables)) (c .before .before .before .before .pre .0), λ i l. absurd (omega arith))
+    (ap (λ (n : ℕ). (layout .grades) * n) (c .before .methods .ensures .is), c .start .ensures ∙ start-first (now (c .before .before .before .before .args .tables)) (c .before .before .before .before .pre .0), λ i l. absurd (omega arith))
 
 round-requires : tie.Need-round-requires Inv-loop μ-loop
 round-requires c κs =
@@ -59,7 +60,7 @@ returns c =
     let t = now (c .before .before .before .before .before .before .before .before .before .before .before .args .tables) in
     let fits = c .before .before .before .before .before .before .before .before .before .before .before .pre .0 in
     let at = c .before .before .before .before .before .before .loop in
-    let seen = compared t fits (16 * c .before .before .before .before .before .before .before .before .methods .result) (at .n) (at .old) (c .before .before .before .before .round .result) (c .before .same .result) (at .inv .0) (at .inv .1)
+    let seen = compared t fits (layout .grades * c .before .before .before .before .before .before .before .before .methods .result) (at .n) (at .old) (c .before .before .before .before .round .result) (c .before .same .result) (at .inv .0) (at .inv .1)
     (c .before .before .before .before .round .ensures) (c .before .same .ensures) in
     let done : at .n ≡ rounds (programIn t) = stopped t fits (at .n) (c .before .same .result) (at .inv .2) seen (subst T (sym (c .if1 .taken)) tt) in
     (done, at .inv .1 ∙ stopped-tables t fits (at .n) done)
@@ -69,7 +70,7 @@ add-n c =
     let t = now (c .before .before .before .before .before .before .before .before .before .before .before .args .tables) in
     let fits = c .before .before .before .before .before .before .before .before .before .before .before .pre .0 in
     let at = c .before .before .before .before .before .before .loop in
-    let seen = compared t fits (16 * c .before .before .before .before .before .before .before .before .methods .result) (at .n) (at .old) (c .before .before .before .before .round .result) (c .before .same .result) (at .inv .0) (at .inv .1)
+    let seen = compared t fits (layout .grades * c .before .before .before .before .before .before .before .before .methods .result) (at .n) (at .old) (c .before .before .before .before .round .result) (c .before .same .result) (at .inv .0) (at .inv .1)
     (c .before .before .before .before .round .ensures) (c .before .same .ensures) in
     let rising : Rising t (suc (at .n)) = rising-more t fits (at .n) (c .before .same .result) (at .inv .2) seen (subst (λ (x : Bool). T (not x)) (sym (c .if1 .left)) tt) in
     omega (arith, rising-bound t fits (suc (at .n)) rising, rounds-few t fits)
@@ -79,7 +80,7 @@ loop-less c =
     let t = now (c .before .before .before .before .before .before .before .before .before .before .before .args .tables) in
     let fits = c .before .before .before .before .before .before .before .before .before .before .before .pre .0 in
     let at = c .before .before .before .before .before .before .loop in
-    let seen = compared t fits (16 * c .before .before .before .before .before .before .before .before .methods .result) (at .n) (at .old) (c .before .before .before .before .round .result) (c .before .same .result) (at .inv .0) (at .inv .1)
+    let seen = compared t fits (layout .grades * c .before .before .before .before .before .before .before .before .methods .result) (at .n) (at .old) (c .before .before .before .before .round .result) (c .before .same .result) (at .inv .0) (at .inv .1)
     (c .before .before .before .before .round .ensures) (c .before .same .ensures) in
     let rising : Rising t (suc (at .n)) = rising-more t fits (at .n) (c .before .same .result) (at .inv .2) seen (subst (λ (x : Bool). T (not x)) (sym (c .if1 .left)) tt) in
     omega (arith, rising-bound t fits (suc (at .n)) rising)
@@ -89,7 +90,7 @@ loop-again c =
     let t = now (c .before .before .before .before .before .before .before .before .before .before .before .args .tables) in
     let fits = c .before .before .before .before .before .before .before .before .before .before .before .pre .0 in
     let at = c .before .before .before .before .before .before .loop in
-    let seen = compared t fits (16 * c .before .before .before .before .before .before .before .before .methods .result) (at .n) (at .old) (c .before .before .before .before .round .result) (c .before .same .result) (at .inv .0) (at .inv .1)
+    let seen = compared t fits (layout .grades * c .before .before .before .before .before .before .before .before .methods .result) (at .n) (at .old) (c .before .before .before .before .round .result) (c .before .same .result) (at .inv .0) (at .inv .1)
     (c .before .before .before .before .round .ensures) (c .before .same .ensures) in
     let rising : Rising t (suc (at .n)) = rising-more t fits (at .n) (c .before .same .result) (at .inv .2) seen (subst (λ (x : Bool). T (not x)) (sym (c .if1 .left)) tt) in (
       at .inv .0,

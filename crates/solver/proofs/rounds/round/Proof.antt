@@ -8,20 +8,21 @@ use Prim.Native.Nat.{ℕ, _+_, _*_, _-_, _≤_, _<_, _^_}
 use mathlib.Core.List.{List}
 use mathlib.Core.Logic.{⊎-elim}
 use lib.ListN.{length, getD}
+use Rattle.frames.specs.Layout.{layout}
 use Rattle.frames.specs.Frames.{methodsIn}
-use Rattle.frames.specs.Tables.{cell, methodOf}
-use Rattle.solver.specs.Flat.{mostMethods, Done, isFixed, roundTables}
+use Rattle.frames.specs.Tables.{cell}
+use Rattle.solver.specs.Flat.{programIn}
 use lib.Dec.{T}
 use borrow.Author.Tests.{not-true, not-false}
-use Rattle.solver.specs.FlatLaws.{done-none, done-all, skip-methods, flat-length, no-entry-method, not-entry, fixed-declared}
+use Rattle.solver.specs.Laws.Flat.{done-none, done-all, skip-methods, flat-length, no-entry-method, not-entry, fixed-declared}
 use Rattle.meaning.specs.Lowest.{isEntry}
-use Rattle.solver.specs.Engine.{programIn}
 use Rattle.solver.proofs.rounds.round.Statement.{statement}
+use Rattle.solver.specs.Code.Rounds.{Done, isFixed, roundTables}
 use Rattle.solver.proofs.rounds.round.Tie as tie
 
 abbrev Inv-loop : tie.InvT-loop
 Inv-loop tables old starts new₀ methods m₀ new m =
-    (methods ≡ methodsIn (cell tables)) × (m ≤ methods) × Done (16 * m) (roundTables tables old) old new
+    (methods ≡ methodsIn (cell tables)) × (m ≤ methods) × Done (layout .grades * m) (roundTables tables old) old new
 
 abbrev μ-loop : tie.MeasureT-loop
 μ-loop tables old starts new₀ methods m₀ new m = methods - m
@@ -71,13 +72,13 @@ loop-again c =
     let given = c .before .before .before .before .before .before .before .before .pre in
     let at = c .before .before .before .loop in
     let within : at .m < methodsIn (cell t) = omega (arith, at .inv .0) in
-    let next : 16 * at .m + 16 ≡ 16 * (at .m + 1) = omega arith in (
+    let next : (layout .grades) * at .m + layout .grades ≡ layout .grades * (at .m + 1) = omega arith in (
       at .inv .0,
       omega arith,
       ⊎-elim
-          (λ w. subst (Done (16 * (at .m + 1)) (roundTables t old) old) (sym (w .6))
+          (λ w. subst (Done (layout .grades * (at .m + 1)) (roundTables t old) old) (sym (w .6))
           (subst (λ (n : ℕ). Done n (roundTables t old) old (w .4 .last .1 .1 .0)) next (w .4 .ensures)))
-          (λ w. subst (Done (16 * (at .m + 1)) (roundTables t old) old) (sym (w .1))
+          (λ w. subst (Done (layout .grades * (at .m + 1)) (roundTables t old) old) (sym (w .1))
           (skip-methods (at .m) (at .m + 1) (roundTables t old) old (at .new) (at .inv .2) (omega arith)
           (λ n h l k e. let same : at .m ≡ n = omega arith in
           given .1 .1 .declared n h (omega (arith, given .0 .methods)) e
@@ -93,7 +94,7 @@ returns c =
     let given = c .before .before .before .before .before .before .pre in
     let at = c .before .loop in
     done-all (roundTables t old) old (at .new) (flat-length _)
-    (skip-methods (at .m) mostMethods (roundTables t old) old (at .new) (at .inv .2) (omega (arith, at .inv .0, given .0 .methods))
+    (skip-methods (at .m) (layout .mostMethods) (roundTables t old) old (at .new) (at .inv .2) (omega (arith, at .inv .0, given .0 .methods))
     (λ n h l k e. given .1 .1 .outside n h k e (not-entry (isEntry (programIn t) n h) (no-entry-method t (given .0) n h (omega (arith, at .inv .0))))))
 
 pub round-spec : {M : Type 1} → statement M

@@ -7,18 +7,19 @@ use denote.Ref.{now}
 use Prim.Native.Nat.{ℕ, _+_, _*_, _-_, _≤_, _<_, _^_}
 use mathlib.Core.List.{List}
 use lib.ListN.{length, getD, set, replicate, length-set, getD-replicate}
+use Rattle.frames.specs.Layout.{layout}
 use Rattle.frames.specs.Tables.{cell, methodOf}
-use Rattle.solver.specs.Flat.{Done, roundTables}
-use Rattle.solver.specs.FlatLaws.{done-store, skip-rest, few-entries, no-entry-set, not-entry, count-read, round-undeclared}
+use Rattle.solver.specs.Flat.{programIn}
+use Rattle.solver.specs.Laws.Flat.{done-store, skip-rest, few-entries, no-entry-set, not-entry, count-read, round-undeclared}
 use Rattle.meaning.specs.Lowest.{isEntry}
-use Rattle.solver.specs.Engine.{programIn}
 use native.Mathlib.Nat.{add-zero, add-assoc}
 use Rattle.solver.proofs.rounds.round_method.Statement.{statement}
+use Rattle.solver.specs.Code.Rounds.{Done, roundTables}
 use Rattle.solver.proofs.rounds.round_method.Tie as tie
 
 abbrev Inv-loop : tie.InvT-loop
 Inv-loop tables old new₀ first m count h₀ new h =
-    (h ≤ count) × (count ≡ 2 ^ methodOf (cell tables) m .k) × Done (16 * m + h) (roundTables tables old) (old) new
+    (h ≤ count) × (count ≡ 2 ^ methodOf (cell tables) m .k) × Done (layout .grades * m + h) (roundTables tables old) (old) new
 
 abbrev μ-loop : tie.MeasureT-loop
 μ-loop tables old new₀ first m count h₀ new h = count - h
@@ -35,7 +36,7 @@ loop-holds c =
     let given = c .before .before .before .before .before .pre in
     let count : c .entries .result ≡ 2 ^ methodOf (cell (now (a .tables))) (a .m) .k
     = count-read (now (a .tables)) (given .0) (a .m) (c .before .k .result) (c .entries .result) (given .1 .0 .method) (c .before .k .ensures .is) (c .entries .ensures) in
-    (omega arith, count, subst (λ (n : ℕ). Done n (roundTables (now (a .tables)) (now (a .old))) (now (a .old)) (now (a .new))) (sym (add-zero (16 * a .m))) (given .1 .1 .1 .1))
+    (omega arith, count, subst (λ (n : ℕ). Done n (roundTables (now (a .tables)) (now (a .old))) (now (a .old)) (now (a .new))) (sym (add-zero (layout .grades * a .m))) (given .1 .1 .1 .1))
 
 cast-root-grade : tie.Need-cast-root-grade Inv-loop μ-loop
 cast-root-grade c = search needs
@@ -67,10 +68,10 @@ loop-again c =
     let at = c .before .before .loop in
     let h = at .h in
     let entry : h < 2 ^ methodOf (cell t) (a .m) .k = omega (arith, at .inv .1) in
-    let more = done-store (16 * a .m + h) (c .root-grade .result) (roundTables t old) old (at .new) (at .inv .2)
+    let more = done-store (layout .grades * a .m + h) (c .root-grade .result) (roundTables t old) old (at .new) (at .inv .2)
     (omega (arith, few-entries t (given .0) (a .m) (given .1 .0 .method), given .0 .methods, given .1 .0 .method))
     (c .root-grade .ensures ∙ sym (round-undeclared t (given .0) old (a .m) h (given .1 .0 .method) (given .1 .1 .0) entry)) in
-    (omega arith, at .inv .1, subst (λ (n : ℕ). Done n (roundTables t old) old (set (at .new) (16 * a .m + h) (c .root-grade .result))) (add-assoc (16 * a .m) h 1) more)
+    (omega arith, at .inv .1, subst (λ (n : ℕ). Done n (roundTables t old) old (set (at .new) (layout .grades * a .m + h) (c .root-grade .result))) (add-assoc (layout .grades * a .m) h 1) more)
 
 same-length : tie.Need-same-length Inv-loop μ-loop
 same-length c = search needs

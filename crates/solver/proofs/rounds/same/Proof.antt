@@ -7,7 +7,6 @@ use denote.Ref.{now}
 use Prim.Native.Nat.{ℕ, _+_, _-_, _≤_, _<_}
 use lib.ListN.{length, getD}
 use borrow.Author.Count.{below-more}
-use Rattle.solver.specs.Flat.{SameTo}
 use Rattle.solver.proofs.rounds.same.Statement.{statement}
 use Rattle.solver.proofs.rounds.same.Tie as tie
 

@@ -8,16 +8,18 @@ use Prim.Native.Nat.{ℕ, _+_, _*_, _-_, _≤_, _<_, _^_}
 use mathlib.Core.List.{List}
 use mathlib.Core.Logic.{⊎-elim}
 use lib.ListN.{length, getD}
+use Rattle.frames.specs.Layout.{layout}
 use Rattle.frames.specs.Frames.{methodsIn}
 use Rattle.frames.specs.Tables.{cell}
-use Rattle.solver.specs.Flat.{mostMethods, blank, Done, isFixed, startTables}
-use Rattle.solver.specs.FlatLaws.{done-none, done-all, skip-methods, blank-length, blank-at, flat-length, no-entry-method, start-outside, start-undeclared}
+use Rattle.solver.specs.Flat.{blank}
+use Rattle.solver.specs.Laws.Flat.{done-none, done-all, skip-methods, blank-length, blank-at, flat-length, no-entry-method, start-outside, start-undeclared}
 use Rattle.solver.proofs.rounds.start.Statement.{statement}
+use Rattle.solver.specs.Code.Rounds.{Done, isFixed, startTables}
 use Rattle.solver.proofs.rounds.start.Tie as tie
 
 abbrev Inv-loop : tie.InvT-loop
 Inv-loop tables new₀ methods m₀ new m =
-    (methods ≡ methodsIn (cell tables)) × (m ≤ methods) × Done (16 * m) (startTables tables) blank new
+    (methods ≡ methodsIn (cell tables)) × (m ≤ methods) × Done (layout .grades * m) (startTables tables) blank new
 
 abbrev μ-loop : tie.MeasureT-loop
 μ-loop tables new₀ methods m₀ new m = methods - m
@@ -52,16 +54,16 @@ loop-again c =
     let fits = c .before .before .before .before .before .before .pre in
     let at = c .before .before .before .loop in
     let within : at .m < methodsIn (cell t) = omega (arith, at .inv .0) in
-    let next : 16 * at .m + 16 ≡ 16 * (at .m + 1) = omega arith in (
+    let next : (layout .grades) * at .m + layout .grades ≡ layout .grades * (at .m + 1) = omega arith in (
       at .inv .0,
       omega arith,
       ⊎-elim
-          (λ w. subst (Done (16 * (at .m + 1)) (startTables t) blank) (sym (w .4))
+          (λ w. subst (Done (layout .grades * (at .m + 1)) (startTables t) blank) (sym (w .4))
           (subst (λ (n : ℕ). Done n (startTables t) blank (w .2 .last .1 .0)) next (w .2 .ensures)))
-          (λ w. subst (Done (16 * (at .m + 1)) (startTables t) blank) (sym (w .1))
+          (λ w. subst (Done (layout .grades * (at .m + 1)) (startTables t) blank) (sym (w .1))
           (skip-methods (at .m) (at .m + 1) (startTables t) blank (at .new) (at .inv .2) (omega arith)
           (λ n h l k e. let same : at .m ≡ n = omega arith in
-          start-undeclared t fits n h (omega arith) e (ap (isFixed t) (sym same) ∙ sym (c .before .declared .ensures) ∙ w .0 .left) ∙ sym (blank-at (16 * n + h)))))
+          start-undeclared t fits n h (omega arith) e (ap (isFixed t) (sym same) ∙ sym (c .before .declared .ensures) ∙ w .0 .left) ∙ sym (blank-at (layout .grades * n + h)))))
           (c .if1 .came),
     )
 
@@ -72,8 +74,8 @@ returns c =
     let fits = c .before .before .before .before .pre in
     let at = c .before .loop in
     done-all (startTables t) blank (at .new) (flat-length _)
-    (skip-methods (at .m) mostMethods (startTables t) blank (at .new) (at .inv .2) (omega (arith, at .inv .0, fits .methods))
-    (λ n h l k e. start-outside t fits n h k e (no-entry-method t fits n h (omega (arith, at .inv .0))) ∙ sym (blank-at (16 * n + h))))
+    (skip-methods (at .m) (layout .mostMethods) (startTables t) blank (at .new) (at .inv .2) (omega (arith, at .inv .0, fits .methods))
+    (λ n h l k e. start-outside t fits n h k e (no-entry-method t fits n h (omega (arith, at .inv .0))) ∙ sym (blank-at (layout .grades * n + h))))
 
 pub start-spec : {M : Type 1} → statement M
 start-spec =

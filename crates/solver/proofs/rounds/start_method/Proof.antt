@@ -7,16 +7,18 @@ use denote.Ref.{now}
 use Prim.Native.Nat.{ℕ, _+_, _*_, _-_, _≤_, _<_, _^_}
 use mathlib.Core.List.{List}
 use lib.ListN.{length, getD, set, replicate, length-set, getD-replicate}
+use Rattle.frames.specs.Layout.{layout}
 use Rattle.frames.specs.Tables.{cell, methodOf}
-use Rattle.solver.specs.Flat.{blank, Done, startTables}
-use Rattle.solver.specs.FlatLaws.{done-store, skip-rest, few-entries, no-entry-set, count-read, start-declared, start-outside, blank-at}
+use Rattle.solver.specs.Flat.{blank}
+use Rattle.solver.specs.Laws.Flat.{done-store, skip-rest, few-entries, no-entry-set, count-read, start-declared, start-outside, blank-at}
 use native.Mathlib.Nat.{add-zero, add-assoc}
 use Rattle.solver.proofs.rounds.start_method.Statement.{statement}
+use Rattle.solver.specs.Code.Rounds.{Done, startTables}
 use Rattle.solver.proofs.rounds.start_method.Tie as tie
 
 abbrev Inv-loop : tie.InvT-loop
 Inv-loop tables new₀ m count h₀ new h =
-    (h ≤ count) × (count ≡ 2 ^ methodOf (cell tables) m .k) × Done (16 * m + h) (startTables tables) blank new
+    (h ≤ count) × (count ≡ 2 ^ methodOf (cell tables) m .k) × Done (layout .grades * m + h) (startTables tables) blank new
 
 abbrev μ-loop : tie.MeasureT-loop
 μ-loop tables new₀ m count h₀ new h = count - h
@@ -33,7 +35,7 @@ loop-holds c =
     let given = c .before .before .before .before .pre in
     let count : c .entries .result ≡ 2 ^ methodOf (cell (now (a .tables))) (a .m) .k
     = count-read (now (a .tables)) (given .0) (a .m) (c .before .k .result) (c .entries .result) (given .1 .0) (c .before .k .ensures .is) (c .entries .ensures) in
-    (omega arith, count, subst (λ (n : ℕ). Done n (startTables (now (a .tables))) blank (now (a .new))) (sym (add-zero (16 * a .m))) (given .1 .1 .1))
+    (omega arith, count, subst (λ (n : ℕ). Done n (startTables (now (a .tables))) blank (now (a .new))) (sym (add-zero (layout .grades * a .m))) (given .1 .1 .1))
 
 entry-requires : tie.Need-entry-requires Inv-loop μ-loop
 entry-requires c κs = search needs
@@ -64,10 +66,10 @@ loop-again c =
     let at = c .before .before .loop in
     let h = at .h in
     let entry : h < 2 ^ methodOf (cell t) (a .m) .k = omega (arith, at .inv .1) in
-    let more = done-store (16 * a .m + h) (c .entry .result) (startTables t) blank (at .new) (at .inv .2)
+    let more = done-store (layout .grades * a .m + h) (c .entry .result) (startTables t) blank (at .new) (at .inv .2)
     (omega (arith, few-entries t (given .0) (a .m) (given .1 .0), given .0 .methods, given .1 .0))
     (c .entry .ensures .is ∙ sym (start-declared t (given .0) (a .m) h (given .1 .0) (given .1 .1 .0) entry)) in
-    (omega arith, at .inv .1, subst (λ (n : ℕ). Done n (startTables t) blank (set (at .new) (16 * a .m + h) (c .entry .result))) (add-assoc (16 * a .m) h 1) more)
+    (omega arith, at .inv .1, subst (λ (n : ℕ). Done n (startTables t) blank (set (at .new) (layout .grades * a .m + h) (c .entry .result))) (add-assoc (layout .grades * a .m) h 1) more)
 
 same-length : tie.Need-same-length Inv-loop μ-loop
 same-length c = search needs
@@ -80,7 +82,7 @@ returns c =
     let at = c .before .loop in
     skip-rest (a .m) (at .h) (startTables t) blank (at .new) (at .inv .2) (omega (arith, at .inv .1, few-entries t (given .0) (a .m) (given .1 .0)))
     (λ e l k. start-outside t (given .0) (a .m) e (omega (arith, given .0 .methods, given .1 .0)) k
-    (no-entry-set t (given .0) (a .m) e (given .1 .0) (omega (arith, at .inv .1))) ∙ sym (blank-at (16 * a .m + e)))
+    (no-entry-set t (given .0) (a .m) e (given .1 .0) (omega (arith, at .inv .1))) ∙ sym (blank-at (layout .grades * a .m + e)))
 
 pub start-method-spec : {M : Type 1} → statement M
 start-method-spec =

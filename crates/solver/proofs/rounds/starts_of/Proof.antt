@@ -5,13 +5,13 @@ use native.Mathlib.Omega.{arith}
 use borrow.Author.Needs.{needs}
 use denote.Ref.{now}
 use Prim.Native.Nat.{ℕ, _+_, _-_, _*_, _≤_, _<_}
-use Rattle.frames.specs.TableLaws.{nodes-length}
+use Rattle.frames.specs.Laws.Tables.{nodes-length}
 use Rattle.frames.specs.Frames.{methodsIn}
 use Rattle.frames.specs.Tables.{cell, firstFrame}
 use Rattle.frames.specs.Links.{nodeCount, nodesBefore}
-use Rattle.solver.specs.Flat.{Starts}
-use Rattle.solver.specs.FlatLaws.{starts-more, first-more}
+use Rattle.solver.specs.Laws.Flat.{starts-more, first-more}
 use Rattle.solver.proofs.rounds.starts_of.Statement.{statement}
+use Rattle.solver.specs.Code.Rounds.{Starts}
 use Rattle.solver.proofs.rounds.starts_of.Tie as tie
 
 abbrev Inv-loop : tie.InvT-loop

@@ -1,0 +1,2 @@
+-- What the code's private functions come to.
+pub mod Steps

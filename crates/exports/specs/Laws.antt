@@ -1,0 +1,2 @@
+-- What follows of the definition, under its name.
+pub mod Record

@@ -1,0 +1,10 @@
+-- What follows of the definitions, most of it under their names.
+pub mod Tree
+pub mod Meaning
+pub mod Lowest
+pub mod Rounds
+pub mod Constraints
+pub mod Answers
+pub mod Declarations
+pub mod Changes
+pub mod Changed
