@@ -1,7 +1,7 @@
 -- Reading a text: "2, then line by line, in each line 3, 4, 5, 6". Every text is read to the first line with a fault, or whole.
 -- Assumes nothing.
 use Prim.Native.Nat.{ℕ, zero, suc, _+_, _-_, _^_, min}
-use mathlib.Core.Bool.{cond}
+use mathlib.Core.Bool.{Bool, cond}
 use mathlib.Core.List.{List, []}
 use lib.Dec.{ltb}
 use lib.ListN.{length, getD, drop}
@@ -22,12 +22,14 @@ use Rattle.frames.specs.declared.Fault.{Fault}
 use Rattle.frames.specs.declared.Fault.the-variants.{Sound, Malformed, Misplaced, OutOfRange, Unlinked}
 use Rattle.counting.specs.Counting.{zeros}
 
--- "in each line 3, 4, 5, 6": the lowest refusal of a line l that is read as frame i, where d is due; f has the frames of all lines
+-- "in each line 3, 4, 5, 6": the lowest refusal that applies, of what the four tests say
+abbrev pub lowestFault : (formed placed ranged linked : Bool) → Fault
+lowestFault formed placed ranged linked =
+    cond formed (cond placed (cond ranged (cond linked Sound Unlinked) OutOfRange) Misplaced) Malformed
+
+-- of a line l that is read as frame i, where d is due; f has the frames of all lines
 unfoldable pub faultOf : Frames → Due → ℕ → List ℕ → Fault
-faultOf f d i l =
-    cond (wellFormed l)
-    (cond (placed d l) (cond (inRange f d i) (cond (linked f d i) Sound Unlinked) OutOfRange) Misplaced)
-    Malformed
+faultOf f d i l = lowestFault (wellFormed l) (placed d l) (inRange f d i) (linked f d i)
 
 -- the fault of line i, counted from 0
 unfoldable pub faultAt : List (List ℕ) → ℕ → Fault

@@ -37,9 +37,9 @@ ghost use Rattle.frames.specs.Layout.{layout, tablesLength};
 ghost use Rattle.lines.specs.Lines.{lines, bytes, frameLength};
 ghost use Rattle.frames.specs.Frames.{due, kindOf, lengthOf, placed};
 ghost use Rattle.frames.specs.Tables.{cell};
-ghost use Rattle.frames.specs.Reading.{outcomeOf, noTables, readText};
+ghost use Rattle.frames.specs.Reading.{lowestFault, outcomeOf, noTables, readText};
 ghost use Rattle.frames.specs.Refusals.{numberOf, lineOf};
-ghost use Rattle.frames.specs.Code.Steps.{Tested, Taken, nextNode, nextStand, isEnd, isSound, isWhole, surplus, OneRead};
+ghost use Rattle.frames.specs.Code.Steps.{Taken, nextNode, nextStand, isEnd, isSound, isWhole, surplus, OneRead};
 ghost use Rattle.counting.specs.Counting.{zeros};
 ghost use Rattle.lines.specs.Places.{lineFrom};
 
@@ -118,7 +118,7 @@ fn length_of(due: Due) -> usize
 
 // The line is of the kind due and of its length.
 fn placed(line: &[u8], length: usize, due: Due) -> bool
-    requires { ⌜ (length ≡ frameLength (now line)) × (0 < length) ⌝ }
+    requires { ⌜ length ≡ frameLength (now line) ⌝ }
     ensures { λ r. ⌜ r ≡ placed due (now (line .entry)) ⌝ }
 {
     if length != length_of(due) {
@@ -127,34 +127,46 @@ fn placed(line: &[u8], length: usize, due: Due) -> bool
     line_byte(line, 0) == kind_of(due)
 }
 
-// Frame i stands in the tables: refusals 5 and 6.
-fn frame_fault(tables: &[u8], named: &mut [u8], due: Due, i: usize, stand: Stand) -> Fault
-    requires { ⌜ (i < layout .mostFrames) × (stand .number ≤ length (now named)) ⌝ }
-    ensures { λ r. ⌜ Tested r (cell (now (tables .entry))) (now (named .entry)) (now (named .exit)) due i (stand .method) (stand .number) ⌝ }
+// "in each line 3, 4, 5, 6": the lowest refusal that applies, of what the four tests say.
+fn lowest_fault(formed: bool, placed: bool, ranged: bool, linked: bool) -> Fault
+    ensures { λ r. ⌜ r ≡ lowestFault formed placed ranged linked ⌝ }
 {
-    if !in_range(tables, due, i) {
+    if !formed {
+        return Fault::Malformed;
+    }
+    if !placed {
+        return Fault::Misplaced;
+    }
+    if !ranged {
         return Fault::OutOfRange;
     }
-    if !linked(tables, named, due, i, stand) {
+    if !linked {
         return Fault::Unlinked;
     }
     Fault::Sound
 }
 
-// The line's bytes, as frame j of the tables.
-fn store(line: &[u8], length: usize, tables: &mut [u8], j: usize)
-    requires { ⌜ (length ≡ frameLength (now line)) × ((j < layout .mostFrames) × (j * layout .stride + length ≤ lib.ListN.length (now tables))) ⌝ }
-    ensures { λ r. ⌜ now (tables .exit) ≡ paste (now (tables .entry)) (j * layout .stride) (bytes (now (line .entry))) length ⌝ }
+// How many bytes of a line go into the tables: none unless it is of the kind and length due.
+fn kept(placed: bool, length: usize) -> usize
+    ensures { λ r. ⌜ r ≡ cond placed length 0 ⌝ }
+{
+    if placed { length } else { 0 }
+}
+
+// The first bytes of a line, as frame j of the tables.
+fn store(line: &[u8], count: usize, tables: &mut [u8], j: usize)
+    requires { ⌜ (count ≤ frameLength (now line)) × ((j < layout .mostFrames) × (j * layout .stride + count ≤ length (now tables))) ⌝ }
+    ensures { λ r. ⌜ now (tables .exit) ≡ paste (now (tables .entry)) (j * layout .stride) (bytes (now (line .entry))) count ⌝ }
 {
     let mut b: usize = 0;
-    while b < length {
+    while b < count {
         let x = line_byte(line, b);
         tables[j * STRIDE + b] = x as u8;
         b = b + 1;
     }
 }
 
-// The line is read as frame i.
+// The line is read as frame i: all four tests, and the lowest refusal that applies.
 fn take_line(
     line: &[u8],
     due: Due,
@@ -166,15 +178,12 @@ fn take_line(
     requires { ⌜ (i < layout .mostFrames) × ((length (now tables) ≡ tablesLength) × (stand .number ≤ length (now named))) ⌝ }
     ensures { λ r. ⌜ Taken r (now (line .entry)) due (now (tables .entry)) (now (tables .exit)) (now (named .entry)) (now (named .exit)) i (stand .method) (stand .number) ⌝ }
 {
-    let length = frame_length(line);
-    if length == 0 {
-        return Fault::Malformed;
-    }
-    if !placed(line, length, due) {
-        return Fault::Misplaced;
-    }
-    store(line, length, tables, i);
-    frame_fault(tables, named, due, i, stand)
+    let bytes = frame_length(line);
+    let placed = placed(line, bytes, due);
+    store(line, kept(placed, bytes), tables, i);
+    let ranged = in_range(tables, due, i);
+    let linked = linked(tables, named, due, i, stand);
+    lowest_fault(0 < bytes, placed, ranged, linked)
 }
 
 // Where the node after this one stands.

@@ -29,10 +29,6 @@ use Rattle.counting.specs.Counting.{zeros}
 unfoldable pub faultBy : Frames → List ℕ → Due → (i m n : ℕ) → Fault
 faultBy f marks d i m n = cond (inRange f d i) (cond (linkedBy f marks d i m n) Sound Unlinked) OutOfRange
 
-pub record Tested (r : Fault) (f : Frames) (before after : List ℕ) (d : Due) (i m n : ℕ) : Type 0 where
-  pub is : r ≡ faultBy f before d i m n
-  pub marks : r ≡ Sound → after ≡ markedBy f before d i
-
 -- the tables with a line's bytes as frame i
 abbrev pub stored : List ℕ → ℕ → List ℕ → List ℕ
 stored t i l = paste t (i * layout .stride) (bytes l) (frameLength l)

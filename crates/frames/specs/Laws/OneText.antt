@@ -104,7 +104,7 @@ module _ {text : List ℕ} {ls : List (List ℕ)} {t N : List ℕ} {at line i : 
       let low = going-low go (λ e. more (sym is ∙ e)) in
       let st = standing-next go (cell t′) (λ j h. ap (λ (u : List ℕ). cell u j) et ∙ line-same go l its d is more w q j h) d is more s′ es in
       record {
-        wide = ap length et ∙ (stored-length t l (i * layout .stride) (frameLength l) (frameLength l) refl (omega (arith, go .wide, placed-short d l q)) (le-refl (frameLength l)) ∙ go .wide);
+        wide = ap length et ∙ (stored-length t l (i * layout .stride) (frameLength l) (frameLength l) (le-refl (frameLength l)) (omega (arith, go .wide, placed-short d l q)) (le-refl (frameLength l)) ∙ go .wide);
         holds = λ j b. ap (λ (u : List ℕ). cell u j b) et ∙ (line-holds go l its d is more w q j b ∙ ap (λ (k : ℕ). firstFrames k f j b) (sym (add-one i)));
         rest = rest;
         inside = inside;

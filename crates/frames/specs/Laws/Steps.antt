@@ -1,22 +1,23 @@
 -- Laws of the reader's private steps.
 -- Assumes nothing.
-use Prim.Native.Nat.{ℕ, zero, suc, _+_, _≤_, _<_}
+use Prim.Native.Nat.{ℕ, _+_, _*_, _≤_, _<_}
 use mathlib.Core.Path.{_≡_, refl, ap, sym, _∙_}
-use mathlib.Core.Bool.{Bool, true, false}
-use mathlib.Core.List.{List, _∷_}
+use mathlib.Core.Bool.{Bool, true, false, cond}
+use mathlib.Core.List.{List}
 use native.Mathlib.Omega.{arith}
-use lib.Dec.{eqb}
-use lib.ListN.{getD, replicate}
+use lib.Dec.{ltb, eqb}
+use lib.ListN.{getD}
+use lib.Seq.{paste}
 use borrow.Author.Tests.{lt-ltb, le-ltb, eq-eqb, ne-eqb, eqb-true}
 use Rattle.frames.specs.Layout.{layout, tablesLength}
 use Rattle.lines.specs.Lines.{bytes, frameLength, wellFormed}
 use Rattle.frames.specs.Frames.{Frames, due, placed, kindOf, lengthOf, firstMethod, firstNode, allFrames}
 use Rattle.frames.specs.Ranges.{inRange}
 use Rattle.frames.specs.Links.{nodeCount}
-use Rattle.frames.specs.Code.Marks.{markedBy, Linked}
+use Rattle.frames.specs.Code.Marks.{linkedBy, markedBy, Linked}
 use Rattle.frames.specs.Tables.{cell}
-use Rattle.frames.specs.Reading.{noTables}
-use Rattle.frames.specs.Code.Steps.{faultBy, Tested, stored, lineFault, Taken, nextNode, isEnd, isSound}
+use Rattle.frames.specs.Reading.{lowestFault, noTables}
+use Rattle.frames.specs.Code.Steps.{faultBy, lineFault, Taken, nextNode, isEnd, isSound}
 use Rattle.frames.specs.declared.Tables.{Tables}
 use Rattle.frames.specs.declared.Due.{Due}
 use Rattle.frames.specs.declared.Due.the-variants.{Header, Field, Method, Node, End}
@@ -61,38 +62,35 @@ pub placed-kind : (d : Due) (l : List ℕ) (n : ℕ) → n ≡ frameLength l →
 unfolding placed
 placed-kind d l n e h = rw (eq-eqb (frameLength l) (lengthOf d) (sym e ∙ h))
 
--- refusals 5 and 6
-module _ (f : Frames) (N N₁ : List ℕ) (d : Due) (i m n : ℕ) (a b : Bool) where
-  pub tested-range : a ≡ inRange f d i → a ≡ false → Tested OutOfRange f N N₁ d i m n
-  unfolding faultBy
-  tested-range h e = record { is = sym (rw (sym h ∙ e)); marks = λ p. cc }
+sound-linked : (b : Bool) → cond b Sound Unlinked ≡ Sound → b ≡ true
+sound-linked true e = refl
+sound-linked false e = cc
 
-  pub tested-linked : a ≡ inRange f d i → a ≡ true → Linked b f N N₁ d i m n → b ≡ false → Tested Unlinked f N N₁ d i m n
-  unfolding faultBy
-  tested-linked h e l g = record { is = sym (rw (sym h ∙ e, sym (l .is) ∙ g)); marks = λ p. cc }
-
-  pub tested-sound : a ≡ inRange f d i → a ≡ true → Linked b f N N₁ d i m n → b ≡ true → Tested Sound f N N₁ d i m n
-  unfolding faultBy
-  tested-sound h e l g = record { is = sym (rw (sym h ∙ e, sym (l .is) ∙ g)); marks = λ p. l .marks g }
-
--- refusals 3 to 6
+-- refusals 3 to 6: the four tests, the last two over the tables with the line in them where it is of the kind and length due
 module _ (l : List ℕ) (d : Due) (t t′ N N₁ : List ℕ) (i m n : ℕ) where
-  pub taken-malformed : frameLength l ≡ 0 → Taken Malformed l d t t′ N N₁ i m n
-  unfolding lineFault wellFormed
-  taken-malformed e = record { is = sym (rw e); tables = λ p. cc; marks = λ p. cc }
-
-  pub taken-misplaced : 0 < frameLength l → placed d l ≡ false → Taken Misplaced l d t t′ N N₁ i m n
-  unfolding lineFault wellFormed
-  taken-misplaced h e = record { is = sym (rw (lt-ltb 0 (frameLength l) h, e)); tables = λ p. cc; marks = λ p. cc }
-
-  pub taken : (r : Fault) → 0 < frameLength l → placed d l ≡ true → t′ ≡ stored t i l → Tested r (cell t′) N N₁ d i m n → Taken r l d t t′ N N₁ i m n
-  unfolding lineFault wellFormed
-  taken r h e s q =
-      record {
-        is = q .is ∙ (ap (λ (u : List ℕ). faultBy (cell u) N d i m n) s ∙ sym (rw (lt-ltb 0 (frameLength l) h, e)));
-        tables = λ p. s;
-        marks = λ p. q .marks p ∙ ap (λ (u : List ℕ). markedBy (cell u) N d i) s;
-      }
+  pub taken : (len : ℕ) (p a b : Bool) (r : Fault) → len ≡ frameLength l → p ≡ placed d l
+      → t′ ≡ paste t (i * layout .stride) (bytes l) (cond p len 0) → a ≡ inRange (cell t′) d i → Linked b (cell t′) N N₁ d i m n
+      → r ≡ lowestFault (ltb 0 len) p a b → Taken r l d t t′ N N₁ i m n
+  unfolding lineFault faultBy wellFormed
+  taken len p a b r is = go (ltb 0 len) p a b (ap (ltb 0) (sym is))
+    where
+      go : (w p a b : Bool) → ltb 0 (frameLength l) ≡ w → p ≡ placed d l
+          → t′ ≡ paste t (i * layout .stride) (bytes l) (cond p len 0) → a ≡ inRange (cell t′) d i → Linked b (cell t′) N N₁ d i m n
+          → r ≡ lowestFault w p a b → Taken r l d t t′ N N₁ i m n
+      go false p a b ew ep et ea eb er = record { is = er ∙ sym (rw ew); tables = λ q. cc; marks = λ q. cc }
+      go true false a b ew ep et ea eb er = record { is = er ∙ sym (rw (ew, sym ep)); tables = λ q. cc; marks = λ q. cc }
+      go true true false b ew ep et ea eb er =
+          let s = et ∙ ap (paste t (i * layout .stride) (bytes l)) is in
+          record { is = er ∙ sym (rw (ew, sym ep, sym (ea ∙ ap (λ (u : List ℕ). inRange (cell u) d i) s))); tables = λ q. cc; marks = λ q. cc }
+      go true true true b ew ep et ea eb er =
+          let s = et ∙ ap (paste t (i * layout .stride) (bytes l)) is in
+          record {
+            is =
+                er
+                ∙ sym (rw (ew, sym ep, sym (ea ∙ ap (λ (u : List ℕ). inRange (cell u) d i) s), sym (eb .is ∙ ap (λ (u : List ℕ). linkedBy (cell u) N d i m n) s)));
+            tables = λ q. s;
+            marks = λ q. eb .marks (sound-linked b (sym er ∙ q)) ∙ ap (λ (u : List ℕ). markedBy (cell u) N d i) s;
+          }
 
 -- the next node
 pub next-over : (f : Frames) (s : Stand) → s .number + 1 ≡ nodeCount f (s .method) → _≡_ {A = Stand} (record { method = s .method + 1; number = 0 }) (nextNode f s)
@@ -115,6 +113,11 @@ placed-long d l e = eqb-true (frameLength l) (lengthOf d) (and-left (eqb (frameL
 
 pub placed-short : (d : Due) (l : List ℕ) → placed d l ≡ true → frameLength l ≤ layout .stride
 placed-short d l e = omega (arith, placed-long d l e, length-most d)
+
+-- the bytes of a line that are kept fit
+pub kept-fits : (d : Due) (l : List ℕ) (p : Bool) (len r : ℕ) → len ≡ frameLength l → p ≡ placed d l → r ≡ cond p len 0 → (r ≤ frameLength l) × (r ≤ layout .stride)
+kept-fits d l true len r is e h = (omega arith, omega (arith, placed-short d l (sym e)))
+kept-fits d l false len r is e h = (omega arith, omega arith)
 
 -- the tests of what is due and of a fault
 pub is-end-true : (d : Due) → isEnd d ≡ true → d ≡ End

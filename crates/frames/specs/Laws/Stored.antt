@@ -44,7 +44,7 @@ module _ (d : List ℕ) (at : ℕ) (s : List ℕ) (n : ℕ) (room : at + n ≤ l
       ∙ (getD-drop (at + n) d k 0 ∙ ap (λ (q : ℕ). getD d q 0) (omega arith)))
 
 -- one byte more of a line in the tables
-module _ (t l : List ℕ) (o b n : ℕ) (is : n ≡ frameLength l) (room : o + n ≤ length t) where
+module _ (t l : List ℕ) (o b n : ℕ) (is : n ≤ frameLength l) (room : o + n ≤ length t) where
   pub stored-length : b ≤ n → length (paste t o (bytes l) b) ≡ length t
   stored-length h = length-paste t o (bytes l) b (omega arith) (omega (arith, frame-length-most l))
 

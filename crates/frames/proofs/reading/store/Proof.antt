@@ -41,7 +41,7 @@ add-tables c = omega arith
 
 slice-write-tables : tie.Need-slice-write-tables Inv-loop μ-loop
 slice-write-tables c =
-    let e = stored-length (c .before .before .before .before .before .args .tables .now) (c .before .before .before .before .before .args .line .now) (c .before .before .before .before .before .args .j * layout .stride) (c .before .before .loop .b) (c .before .before .before .before .before .args .length) (c .before .before .before .before .before .pre .0) (c .before .before .before .before .before .pre .1 .1) (omega arith) in
+    let e = stored-length (c .before .before .before .before .before .args .tables .now) (c .before .before .before .before .before .args .line .now) (c .before .before .before .before .before .args .j * layout .stride) (c .before .before .loop .b) (c .before .before .before .before .before .args .count) (c .before .before .before .before .before .pre .0) (c .before .before .before .before .before .pre .1 .1) (omega arith) in
     omega (arith, ap length (c .before .before .loop .inv .0), e)
 
 add-b : tie.Need-add-b Inv-loop μ-loop
@@ -57,18 +57,18 @@ loop-again c =
     let b = c .before .before .loop .b in (
       ap (λ (d : List ℕ). set d (o + b) (c .line-byte .result)) (c .before .before .loop .inv .0)
           ∙ (ap (set (paste t o (bytes (c .before .before .before .before .before .args .line .now)) b) (o + b)) (c .line-byte .ensures)
-          ∙ stored-more (c .before .before .before .before .before .args .tables .now) (c .before .before .before .before .before .args .line .now) (c .before .before .before .before .before .args .j * layout .stride) b (c .before .before .before .before .before .args .length) (c .before .before .before .before .before .pre .0) (c .before .before .before .before .before .pre .1 .1) (omega arith)),
+          ∙ stored-more (c .before .before .before .before .before .args .tables .now) (c .before .before .before .before .before .args .line .now) (c .before .before .before .before .before .args .j * layout .stride) b (c .before .before .before .before .before .args .count) (c .before .before .before .before .before .pre .0) (c .before .before .before .before .before .pre .1 .1) (omega arith)),
       omega arith,
     )
 
 same-length : tie.Need-same-length Inv-loop μ-loop
 same-length c =
     ap length (c .before .loop .inv .0)
-    ∙ stored-length (c .before .before .before .before .args .tables .now) (c .before .before .before .before .args .line .now) (c .before .before .before .before .args .j * layout .stride) (c .before .loop .b) (c .before .before .before .before .args .length) (c .before .before .before .before .pre .0) (c .before .before .before .before .pre .1 .1) (omega arith)
+    ∙ stored-length (c .before .before .before .before .args .tables .now) (c .before .before .before .before .args .line .now) (c .before .before .before .before .args .j * layout .stride) (c .before .loop .b) (c .before .before .before .before .args .count) (c .before .before .before .before .pre .0) (c .before .before .before .before .pre .1 .1) (omega arith)
 
 returns : tie.Need-returns Inv-loop μ-loop
 returns c =
-    let e : c .before .loop .b ≡ c .before .before .before .before .args .length = omega arith in
+    let e : c .before .loop .b ≡ c .before .before .before .before .args .count = omega arith in
     c .before .loop .inv .0 ∙ ap (paste (c .before .before .before .before .args .tables .now) (c .before .before .before .before .args .j * layout .stride) (bytes (c .before .before .before .before .args .line .now))) e
 
 pub store-spec : {M : Type 1} → statement M
