@@ -8,11 +8,14 @@ fn print(page: &[u8], count: usize) {
     }
 }
 
-// Of a longer input the first 32,769 bytes are enough: a text of so many is refused for its length alone. No session has over 2,505.
+// Where a read fails the text is not known, and nothing is printed.
 fn main() {
-    let mut text = [0u8; 32769];
-    let n = io::read_full(STDIN_FILENO, &mut text);
+    let mut text = [0u8; session::TEXT_ROOM];
+    let input = input::read_all(STDIN_FILENO, &mut text);
+    if input.failed {
+        return;
+    }
     let mut page = [0u8; session::LONGEST_SESSION];
-    let count = session::session(&text[..n], &mut page);
+    let count = session::session(&text[..input.count], &mut page);
     print(&page, count);
 }

@@ -6,6 +6,7 @@ use checker::Verdict;
 use frames::layout::ANSWER_LENGTH;
 use frames::layout::GRADES;
 use frames::layout::MOST_METHODS;
+use frames::layout::MOST_TEXT;
 use frames_of::put_accepted;
 use frames_of::put_refusal;
 use writing::copy;
@@ -14,6 +15,9 @@ ghost use Prim.Native.Nat.{_≤_};
 ghost use lib.ListN.{length};
 ghost use Rattle.session.specs.Page.{putAt, printed};
 ghost use Rattle.session.specs.Session.{sessionOf, longestSession};
+
+// Room for any text: of a longer one these bytes are enough, since it is refused for its length alone.
+pub const TEXT_ROOM: usize = MOST_TEXT + 1;
 
 // The longest line of a method: three bytes and its grades, two digits a byte, and the 0A.
 pub const LONGEST_METHOD: usize = 2 * (3 + GRADES) + 1;

@@ -20,9 +20,14 @@ fn grade_file(name: &[u8]) {
         return;
     }
     let mut text = io::large_buffer();
-    let n = io::read_full(from, &mut text);
+    let input = input::read_all(from, &mut text);
+    if input.failed {
+        os::fail(name);
+        libc::close(from);
+        return;
+    }
     libc::close(from);
-    grade_text(&text[..n]);
+    grade_text(&text[..input.count]);
 }
 
 fn grade_argument(i: usize) {

@@ -1,0 +1,34 @@
+// Reading a descriptor to its end. Only a read of 0 bytes ends an input: where a read fails it is unknown what else there was.
+ghost use Rattle.io.specs.Counts.{Counts};
+
+// What came of it: how many bytes were put at the start of the buffer, and whether a read failed after them.
+pub struct Input {
+    pub count: usize,
+    pub failed: bool,
+}
+
+// Reads until the input ends, the buffer is full or a read fails, as one does that a signal interrupts. Which bytes were read no
+// contract can say: they come from outside.
+pub fn read_all(fd: i32, buffer: &mut [u8]) -> Input
+    ensures { λ r. ⌜ Counts (r .count) (now (buffer .exit)) ⌝ }
+{
+    let mut done: usize = 0;
+    while done < buffer.len() {
+        let got = libc::read(fd, &mut buffer[done..]);
+        if got < 0 {
+            return Input {
+                count: done,
+                failed: true,
+            };
+        }
+        let more = io::count(got, &buffer[done..]);
+        if more == 0 {
+            break;
+        }
+        done = done + more;
+    }
+    Input {
+        count: done,
+        failed: false,
+    }
+}
