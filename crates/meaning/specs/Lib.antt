@@ -8,7 +8,6 @@ pub mod Constraints
 pub mod Cases
 pub mod Tree
 pub mod MeaningLaws
-pub mod Unnamed
 pub mod CountingLaws
 pub mod LowestLaws
 pub mod RoundsLaws
@@ -20,3 +19,7 @@ pub mod DeclarationLaws
 pub mod ChangeLaws
 pub mod ChangedLaws
 pub mod Demand3
+pub mod Unnamed
+pub mod TreeLaws
+pub mod SameRootsLaws
+pub mod UnnamedLaws
