@@ -7,4 +7,5 @@ pub mod GradingLaws
 pub mod Demand1
 pub mod Demand2
 pub mod Demand3
+pub mod Unnamed
 pub mod Coincide

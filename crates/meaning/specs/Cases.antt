@@ -229,7 +229,7 @@ pub record WorkedCases : Type 0 where
   pub assert-broken : answer asserts ≡ refused 0 2 0 0
   pub accesses-graded : answer accesses ≡ accepted 1 ((2 ∷ []) ∷ (3 ∷ 1 ∷ []) ∷ (4 ∷ 3 ∷ []) ∷ [])
   pub loop-closed : answer loops ≡ accepted 1 ((3 ∷ []) ∷ [])
-  -- each operand counts: a choice's X, Y and Z, a read's X, a write's X and Y, and a loop's X once more after each round
+  -- each operand counts: a choice's X, Y and Z, a read's X, a write's X and Y, and a loop's X once more, after its Y
   pub choice-operands : answer (record { fields = unguarded ∷ []; methods = choosesByField 4 2 ∷ choosesByField 2 4 ∷ [] }) ≡ accepted 1 ((3 ∷ []) ∷ (3 ∷ []) ∷ [])
   pub access-operands : answer follows ≡ accepted 1 ((3 ∷ []) ∷ (4 ∷ 3 ∷ []) ∷ [])
   pub loop-operands : answer waits ≡ accepted 1 ((3 ∷ []) ∷ [])

@@ -10,7 +10,7 @@ use Rattle.grades.specs.HeldSets.{entries, held}
 use Rattle.frames.specs.Program.{Field, Node, Program}
 use Rattle.meaning.specs.Meaning.{Assignment, choose, noField, fieldAt, methodAt, body, plainNode, rootOf, Op, plainValue, read, write, sequence, choice, loop, synchronised, assertion, call, fork, noOp, opOf, children, firstName, fieldAccess, calleeEntry, Part, child, own, childSet, ownPart, parts, partGrade, whole, nodeGrade, below, meaning, rootTable}
 use Rattle.meaning.specs.Counting.{upTo}
-use Rattle.meaning.specs.Lowest.{entryCount}
+use Rattle.meaning.specs.Lowest.{methodCount, entryCount}
 use Rattle.meaning.specs.Constraints.{Entry, namedMethod, forkAt, isFork, tablesOf}
 use Rattle.meaning.specs.Changes.{Alike}
 
@@ -56,10 +56,21 @@ module _ (p q : Program) (fields : q .fields ≡ p .fields) (k : (m : ℕ) → m
   same-meaning a nodes n H =
       ap (λ (lower : ℕ → ℕ → ℕ). nodeGrade q a lower (nodes n) H) (same-below a nodes n) ∙ same-node a (below p a nodes n) (nodes n) H
 
+-- and the answer's tables have the same shape
+module _ (p q : Program) (count : methodCount q ≡ methodCount p) (k : (m : ℕ) → methodAt q m .k ≡ methodAt p m .k) where
+  pub same-entries : (m : ℕ) → entryCount q m ≡ entryCount p m
+  unfolding entryCount
+  same-entries m = ap entries (k m)
+
+  pub same-tables : (a : Assignment) → tablesOf q a ≡ tablesOf p a
+  unfolding tablesOf
+  same-tables a =
+      ap₂ (λ (f : ℕ → List ℕ) (n : ℕ). map f (upTo n))
+      (fun-ext (λ m. ap (λ (k : ℕ). map (a m) (upTo k)) (same-entries m))) count
+
 module _ (p q : Program) (s : Alike p q) where
   pub alike-entries : (m : ℕ) → entryCount q m ≡ entryCount p m
-  unfolding entryCount
-  alike-entries m = ap entries (s .k m)
+  alike-entries m = same-entries p q (s .count) (s .k) m
 
   pub alike-entry : (m H : ℕ) → Entry q m H → Entry p m H
   alike-entry m H e =
@@ -100,9 +111,5 @@ module _ (p q : Program) (s : Alike p q) where
   pub alike-length : (m : ℕ) → length (methodAt q m .nodes) ≡ length (methodAt p m .nodes)
   alike-length m = ap (λ (l : List Node). length l) (s .nodes m)
 
-  -- the answer's tables have the same shape
   pub alike-tables : (a : Assignment) → tablesOf q a ≡ tablesOf p a
-  unfolding tablesOf
-  alike-tables a =
-      ap₂ (λ (f : ℕ → List ℕ) (n : ℕ). map f (upTo n))
-      (fun-ext (λ m. ap (λ (k : ℕ). map (a m) (upTo k)) (alike-entries m))) (s .count)
+  alike-tables a = same-tables p q (s .count) (s .k) a

@@ -3,6 +3,8 @@
 -- Assumes nothing.
 use Prim.Native.Nat.{ℕ}
 use mathlib.Core.Bool.{Bool, true, false}
+use mathlib.Core.List.{List}
+use mathlib.Core.Logic.{_⊎_}
 use mathlib.Core.Path.{_≡_}
 use lib.Dec.{eqb}
 use lib.ListN.{length, set}
@@ -10,6 +12,7 @@ use Rattle.frames.specs.Program.{Node, Method, Program}
 use Rattle.meaning.specs.Meaning.{methodAt, body, rootOf, children}
 use Rattle.meaning.specs.Tree.{Among, InTree}
 use Rattle.meaning.specs.Lowest.{methodCount, isDeclared, rounds, lowest}
+use Rattle.meaning.specs.Constraints.{accepted, refused, answer}
 use Rattle.meaning.specs.Changes.{changeMethods}
 
 -- node i names node j as a child
@@ -36,10 +39,13 @@ pub record ChangedAside (p q : Program) : Type 0 where
   pub nodeCount : (m : ℕ) → length (methodAt q m .nodes) ≡ length (methodAt p m .nodes)
   pub nodes : (m j : ℕ) → (Aside (methodAt p m) j → ⊥) → body (methodAt q m) j ≡ body (methodAt p m) j
 
--- no effect on grades: the lowest tables are the same, reached after as many rounds
-pub record SameGrades (p q : Program) : Type 0 where
+-- no effect on grades: the lowest tables are the same, reached after as many rounds. "A fork node's kind 3 constraint counts even if no node
+-- names it": in place of an accepted answer the same is given, or a refusal for a fork.
+pub record NoEffect (p q : Program) : Type 0 where
   pub lowest : lowest q ≡ lowest p
   pub rounds : rounds q ≡ rounds p
+  pub answer : (r : ℕ) (tables : List (List ℕ)) → answer p ≡ accepted r tables
+      → (answer q ≡ accepted r tables) ⊎ ((m n H : ℕ) × (answer q ≡ refused m 3 n H))
 
 -- ---- one node changed for another
 
