@@ -1,6 +1,6 @@
 -- "No unnamed node but the root, fork nodes included, has an effect on grades, nor has what it names." Of the call's verdict and of the bytes that it
 -- leaves in the answer, which its two `ensures` give: of two sound texts, the second with other nodes in place of such, the lowest grades are
--- the same, and where the first is accepted, so is the second, with the same bytes and rounds, unless a fork's kind 3 constraint refuses it.
+-- the same, and where the first is accepted, so is the second, with the same bytes and rounds, unless a fork that it puts there refuses it.
 -- Assumes nothing.
 use Prim.Native.Nat.{ℕ}
 use mathlib.Core.List.{List}
@@ -8,20 +8,17 @@ use mathlib.Core.Logic.{_⊎_, inl, inr}
 use mathlib.Core.Path.{_≡_, sym, ap, ap₂, _∙_, subst}
 use lib.ListN.{length}
 use Rattle.frames.specs.Lines.{lines}
-use Rattle.frames.specs.Program.{Node, Program}
-use Rattle.frames.specs.WellFormed.{WellFormed}
+use Rattle.frames.specs.Program.{Node}
 use Rattle.frames.specs.WellFormedLaws.{well-formed}
 use Rattle.meaning.specs.Meaning.{methodAt, body, rootOf}
 use Rattle.meaning.specs.Lowest.{methodCount, rounds, lowest}
-use Rattle.meaning.specs.Constraints.{Answer, accepted, refused, answer, entryOf}
-use Rattle.meaning.specs.Unnamed.{Unnamed, ChangedAside, changeNode}
+use Rattle.meaning.specs.Constraints.{Answer, accepted, answer}
+use Rattle.meaning.specs.Unnamed.{Unnamed, ChangedAside, ForkRefused as BrokenFork, changeNode}
 use Rattle.meaning.specs.UnnamedLaws.{unnamed-no-effect, changed-node}
-use Rattle.solver.specs.Flat.{flat}
 use Rattle.checker.specs.Grading.{programRead, byAnswer, verdictOf, bytesByAnswer, answerOf}
 use Rattle.checker.specs.Demand1.{Sound}
 use Rattle.checker.specs.Demand2.{says, bytes}
 use Rattle.checker.specs.Demand3.{Passes, Found, found}
-use Rattle.checker.specs.declared.Verdict.{Verdict}
 use Rattle.checker.specs.declared.Verdict.the-variants.{Broken}
 
 -- ---- the statement
@@ -31,17 +28,18 @@ pub record SameOutcome (text old text′ old′ : List ℕ) : Type 0 where
   pub verdict : verdictOf text′ (length old′) ≡ verdictOf text (length old)
   pub bytes : answerOf text′ old′ ≡ answerOf text old
 
--- refusal 7 for a fork
-pub record ForkRefused (text old : List ℕ) : Type 0 where
+-- refusal 7, kind 3, for a node that was changed
+pub record ForkRefused (text text′ old′ : List ℕ) : Type 0 where
   pub method : ℕ
   pub node : ℕ
   pub set : ℕ
-  pub says : verdictOf text (length old) ≡ Broken method 3 node set
+  pub says : verdictOf text′ (length old′) ≡ Broken method 3 node set
+  pub changed : body (methodAt (programRead text′) method) node ≡ body (methodAt (programRead text) method) node → ⊥
 
 pub record NoEffect (text old text′ old′ : List ℕ) : Type 0 where
   pub lowest : lowest (programRead text′) ≡ lowest (programRead text)
   pub rounds : rounds (programRead text′) ≡ rounds (programRead text)
-  pub accepted : Passes text old → SameOutcome text old text′ old′ ⊎ ForkRefused text′ old′
+  pub accepted : Passes text old → SameOutcome text old text′ old′ ⊎ ForkRefused text text′ old′
 
 -- ---- the proof
 
@@ -57,9 +55,8 @@ module _ (text old text′ old′ : List ℕ) (s : Sound text (length old)) (s�
       }
     where
       go : (f : Found text old)
-          → (answer (programRead text′) ≡ accepted (f .rounds) (f .tables))
-          ⊎ ((m n H : ℕ) × (answer (programRead text′) ≡ refused m 3 n H))
-          → SameOutcome text old text′ old′ ⊎ ForkRefused text′ old′
+          → (answer (programRead text′) ≡ accepted (f .rounds) (f .tables)) ⊎ BrokenFork (programRead text) (programRead text′)
+          → SameOutcome text old text′ old′ ⊎ ForkRefused text text′ old′
       go f (inl e) =
           let same : answer (programRead text′) ≡ answer (programRead text) = e ∙ sym (f .is) in
           inl (record {
@@ -68,10 +65,11 @@ module _ (text old text′ old′ : List ℕ) (s : Sound text (length old)) (s�
           })
       go f (inr r) =
           inr (record {
-            method = r .0;
-            node = r .1;
-            set = r .2;
-            says = says text′ (length old′) s′ ∙ ap (λ (y : Answer). byAnswer y (methodCount (programRead text′))) (r .3);
+            method = r .method;
+            node = r .node;
+            set = r .set;
+            says = says text′ (length old′) s′ ∙ ap (λ (y : Answer). byAnswer y (methodCount (programRead text′))) (r .says);
+            changed = r .changed;
           })
 
   -- of one unnamed node but the root, changed for any other

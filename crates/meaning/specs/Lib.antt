@@ -1,6 +1,6 @@
 -- Document 01's "What each node means" and "Constraints and the answer", with demands 2 and 3 as theorems.
 -- Read, in this order: `Meaning`, `Lowest`, `Constraints` (what is defined), `Cases` (document 01's proved cases), `Demand2`, `Changes`,
--- `Demand3`, `Unnamed`. The other files hold the laws and proofs behind them.
+-- `Demand3`, `Unnamed` (proved in `UnnamedLaws`). The other files hold the laws and proofs behind them.
 pub mod Meaning
 pub mod Counting
 pub mod Lowest

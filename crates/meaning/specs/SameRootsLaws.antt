@@ -3,7 +3,7 @@
 -- Assumes nothing.
 use Prim.Native.Nat.{ℕ, zero, suc, _*_}
 use mathlib.Core.Bool.{Bool}
-use mathlib.Core.Path.{_≡_, refl, sym, ap, ap₂, _∙_, fun-ext}
+use mathlib.Core.Path.{_≡_, ap, ap₂, _∙_, fun-ext}
 use lib.Dec.{eqb, ltb}
 use Rattle.grades.specs.Grades.{const, cap, join}
 use Rattle.grades.specs.Everywhere.{both, everywhere}

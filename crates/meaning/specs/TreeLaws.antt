@@ -1,7 +1,7 @@
 -- "a node is named as a child at most once, so that each method is a set of trees": so it is in every program that a text gives. In a set of
 -- trees the tree of the root has no node in common with that of another unnamed node.
 -- Assumes nothing.
-use Prim.Native.Nat.{ℕ, zero, suc, pred, _≤_, _<_}
+use Prim.Native.Nat.{ℕ, zero, suc, pred, _<_}
 use mathlib.Core.Bool.{Bool, true, false, _||_}
 use mathlib.Core.List.{List, [], _∷_}
 use mathlib.Core.Logic.{_⊎_, inl, inr}
@@ -11,7 +11,7 @@ use native.Mathlib.Omega.{arith}
 use native.Mathlib.Decide.{decLt}
 use borrow.Author.Tests.{eq-eqb}
 use lib.Dec.{T, eqb}
-use lib.ListN.{length, getD, take, List·getD-eq-default, List·getD-map}
+use lib.ListN.{length, take, List·getD-eq-default, List·getD-map}
 use Rattle.frames.specs.Lists.{member}
 use Rattle.frames.specs.Links.{naming}
 use Rattle.frames.specs.Program.{Node, Method, Program}

@@ -39,13 +39,20 @@ pub record ChangedAside (p q : Program) : Type 0 where
   pub nodeCount : (m : ℕ) → length (methodAt q m .nodes) ≡ length (methodAt p m .nodes)
   pub nodes : (m j : ℕ) → (Aside (methodAt p m) j → ⊥) → body (methodAt q m) j ≡ body (methodAt p m) j
 
--- no effect on grades: the lowest tables are the same, reached after as many rounds. "A fork node's kind 3 constraint counts even if no node
--- names it": in place of an accepted answer the same is given, or a refusal for a fork.
+-- "A fork node's kind 3 constraint counts even if no node names it": the answer is refusal 7 for a node that was changed, a fork
+pub record ForkRefused (p q : Program) : Type 0 where
+  pub method : ℕ
+  pub node : ℕ
+  pub set : ℕ
+  pub says : answer q ≡ refused method 3 node set
+  pub changed : body (methodAt q method) node ≡ body (methodAt p method) node → ⊥
+
+-- no effect on grades: the lowest tables are the same, reached after as many rounds; and where p is accepted, q has the same answer, but for
+-- forks that p has not
 pub record NoEffect (p q : Program) : Type 0 where
   pub lowest : lowest q ≡ lowest p
   pub rounds : rounds q ≡ rounds p
-  pub answer : (r : ℕ) (tables : List (List ℕ)) → answer p ≡ accepted r tables
-      → (answer q ≡ accepted r tables) ⊎ ((m n H : ℕ) × (answer q ≡ refused m 3 n H))
+  pub answer : (r : ℕ) (tables : List (List ℕ)) → answer p ≡ accepted r tables → (answer q ≡ accepted r tables) ⊎ ForkRefused p q
 
 -- ---- one node changed for another
 

@@ -2,7 +2,7 @@
 -- The root's tree has none of those nodes, and a root's table depends on its tree alone.
 -- Assumes nothing.
 use Prim.Native.Nat.{ℕ, pred, _<_}
-use mathlib.Core.Bool.{Bool, true, false}
+use mathlib.Core.Bool.{Bool, true, false, not}
 use mathlib.Core.List.{List, _∷_}
 use mathlib.Core.Logic.{_⊎_, inl, inr}
 use mathlib.Core.Path.{_≡_, refl, sym, ap, ap₂, _∙_, subst, fun-ext}
@@ -13,22 +13,24 @@ use borrow.Author.Tests.{eqb-true}
 use lib.ListN.{length, getD, length-set}
 use lib.Seq.{getD-set-other}
 use Rattle.grades.specs.Grades.{const, cmpd}
+use Rattle.grades.specs.HeldSets.{held}
+use Rattle.grades.specs.Everywhere.{either}
 use Rattle.frames.specs.Program.{Node, Method, Program}
 use Rattle.frames.specs.WellFormed.{WellFormed}
-use Rattle.meaning.specs.Meaning.{Assignment, plainNode, methodAt, body, rootOf, meaning, rootTable}
+use Rattle.meaning.specs.Meaning.{Assignment, plainNode, methodAt, body, rootOf, opOf, meaning, rootTable}
 use Rattle.meaning.specs.MeaningLaws.{meaning-tree}
 use Rattle.meaning.specs.Tree.{itself}
 use Rattle.meaning.specs.Counting.{All}
 use Rattle.meaning.specs.CountingLaws.{all-right}
 use Rattle.meaning.specs.Lowest.{Givens, methodCount, entryCount, isDeclared, declaredTable, declarations, rounds, lowest, roundsFrom, lowestFrom}
-use Rattle.meaning.specs.Constraints.{Closed, declaredRoot, mainTable, kindOf, Met, holdsAt, closed, accepted, refused, answer, tablesOf}
+use Rattle.meaning.specs.Constraints.{Closed, declaredRoot, mainTable, forkedTable, methodOf, kindOf, nodeOf, namedMethod, isFork, forkAt, Met, holdsAt, closed, accepted, refused, answer, tablesOf}
 use Rattle.meaning.specs.ConstraintLaws.{closed-met, all-closed}
 use Rattle.meaning.specs.VerdictLaws.{when-accepted, RefusedBy, when-refused, either-answer}
 use Rattle.meaning.specs.Changes.{changeMethods}
 use Rattle.meaning.specs.ChangedLaws.{changed, changed-count, changed-at, changed-past}
 use Rattle.meaning.specs.DeclarationLaws.{same-meaning, same-entries, same-tables}
 use Rattle.meaning.specs.SameRootsLaws.{same-rounds, same-lowest}
-use Rattle.meaning.specs.Unnamed.{Unnamed, Aside, ChangedAside, NoEffect, putNode, changeNode}
+use Rattle.meaning.specs.Unnamed.{Unnamed, Aside, ChangedAside, ForkRefused, NoEffect, putNode, changeNode}
 use Rattle.meaning.specs.TreeLaws.{none-aside}
 
 module _ (p q : Program) (w : WellFormed p) (s : ChangedAside p q) where
@@ -66,39 +68,71 @@ module _ (p q : Program) (w : WellFormed p) (s : ChangedAside p q) where
   aside-rounds =
       ap (roundsFrom q) aside-declarations ∙ same-rounds p q (s .count) (same-entries p q (s .count) (s .k)) aside-root (declarations p)
 
-  -- ---- the closed constraints: those of kinds 1 and 2 are the same
+  -- ---- the closed constraints: but for forks that were put there, q has those of p
 
-  abbrev ForkOrMet : Closed → Type 0
-  ForkOrMet c = (kindOf c ≡ 3) ⊎ Met q (lowest q) c
+  same-entry : (m H : ℕ) → H < entryCount q m → H < entryCount p m
+  same-entry m H = subst (λ (n : ℕ). H < n) (same-entries p q (s .count) (s .k) m)
 
-  forks-or-met : All (Met p (lowest p)) (closed p) → All ForkOrMet (closed q)
-  forks-or-met met =
-      let c = closed-met p (lowest p) met in
-      all-closed q ForkOrMet
-      (λ m l t. inr (λ H k.
+  root-met : (m : ℕ) → Met p (lowest p) (declaredRoot m) → Met q (lowest q) (declaredRoot m)
+  root-met m met H k =
       subst T (sym (ap₂ leb (ap (λ (a : Assignment). rootTable q a m H) aside-lowest ∙ aside-root (lowest p) m H) (aside-declared m H)))
-      (c .kind1 m (subst (λ (n : ℕ). m < n) (s .count) l) (subst T (s .declared m) t) H
-      (subst (λ (n : ℕ). H < n) (same-entries p q (s .count) (s .k) m) k))))
-      (λ l. inr (λ H k.
-      subst T (sym (ap (λ (a : Assignment). leb (a 0 H) cmpd) aside-lowest)) (c .kind2 (subst (λ (n : ℕ). 0 < n) (s .count) l) H k)))
-      (λ m n l k t. inl refl)
+      (met H (same-entry m H k))
 
-  fork-named : All (Met p (lowest p)) (closed p) → (m k n H : ℕ) → RefusedBy q m k n H → k ≡ 3
-  fork-named met m k n H r =
-      go (all-right ForkOrMet (r .first .before) (r .constraint ∷ r .first .behind)
-      (subst (All ForkOrMet) (r .first .order) (forks-or-met met)) .0)
+  main-met : Met p (lowest p) mainTable → Met q (lowest q) mainTable
+  main-met met H k = subst T (sym (ap (λ (a : Assignment). leb (a 0 H) cmpd) aside-lowest)) (met H k)
+
+  -- a fork that stays
+  fork-met : (m n : ℕ) → namedMethod q m n ≡ namedMethod p m n → Met p (lowest p) (forkedTable m n) → Met q (lowest q) (forkedTable m n)
+  fork-met m n named met H k =
+      subst T (sym (ap₂ (λ (a : Assignment) (u : ℕ). either (not (held H 0)) (leb (a u H) cmpd)) aside-lowest named))
+      (met H (subst (λ (u : ℕ). H < entryCount p u) named (same-entry (namedMethod q m n) H k)))
+
+  abbrev SameNode : Closed → Type 0
+  SameNode c = body (methodAt q (methodOf c)) (nodeOf c) ≡ body (methodAt p (methodOf c)) (nodeOf c)
+
+  -- what q breaks and p does not is a fork at a node that was changed
+  abbrev NewFork : Closed → Type 0
+  NewFork c = (Met q (lowest q) c → ⊥) → (kindOf c ≡ 3) × (SameNode c → ⊥)
+
+  new-forks : All (Met p (lowest p)) (closed p) → All NewFork (closed q)
+  unfolding forkAt namedMethod
+  new-forks all =
+      let c = closed-met p (lowest p) all in
+      let here : (m : ℕ) → m < methodCount q → m < methodCount p = λ m. subst (λ (n : ℕ). m < n) (s .count) in
+      all-closed q NewFork
+      (λ m l t no. absurd (no (root-met m (c .kind1 m (here m l) (subst T (s .declared m) t)))))
+      (λ l no. absurd (no (main-met (c .kind2 (here 0 l)))))
+      (λ m n l k t no. (
+        refl,
+        λ same. no
+            (fork-met m n (ap (λ (x : Node). x .U) same)
+            (c .kind3 m n (here m l) (subst (λ (i : ℕ). n < i) (s .nodeCount m) k) (subst (λ (x : Node). T (isFork (opOf (x .op)))) same t))),
+      ))
+
+  fork-refused : All (Met p (lowest p)) (closed p) → (m k n H : ℕ) → answer q ≡ refused m k n H → RefusedBy q m k n H → ForkRefused p q
+  fork-refused all m k n H e r =
+      let new = all-right NewFork (r .first .before) (r .constraint ∷ r .first .behind)
+      (subst (All NewFork) (r .first .order) (new-forks all)) .0
+      (λ met. T-not (holdsAt q (lowest q) (r .constraint) H) (r .first .broken) (met H (r .first .set))) in
+      record {
+        method = methodOf (r .constraint);
+        node = nodeOf (r .constraint);
+        set = H;
+        says = e ∙ numbers (sym (r .method)) (sym (r .kind) ∙ new .0) (sym (r .node));
+        changed = new .1;
+      }
     where
-      go : ForkOrMet (r .constraint) → k ≡ 3
-      go (inl e) = sym (r .kind) ∙ e
-      go (inr h) = absurd (T-not (holdsAt q (lowest q) (r .constraint) H) (r .first .broken) (h H (r .first .set)))
+      numbers : {m′ k′ n′ : ℕ} → m ≡ m′ → k ≡ k′ → n ≡ n′ → refused m k n H ≡ refused m′ k′ n′ H
+      numbers x y z = cc
 
-  aside-answer : (r : ℕ) (tables : List (List ℕ)) → answer p ≡ accepted r tables
-      → (answer q ≡ accepted r tables) ⊎ ((m n H : ℕ) × (answer q ≡ refused m 3 n H))
+  aside-answer : (r : ℕ) (tables : List (List ℕ)) → answer p ≡ accepted r tables → (answer q ≡ accepted r tables) ⊎ ForkRefused p q
   aside-answer r tables e =
       let by = when-accepted p r tables e in
+      let same : tablesOf q (lowest q) ≡ tables =
+      ap (tablesOf q) aside-lowest ∙ same-tables p q (s .count) (s .k) (lowest p) ∙ sym (by .tables) in
       either-answer q _
-      (λ met f. inl (f ∙ ap₂ accepted (aside-rounds ∙ sym (by .rounds)) (ap (tablesOf q) aside-lowest ∙ same-tables p q (s .count) (s .k) (lowest p) ∙ sym (by .tables))))
-      (λ m k n H f. inr (m, n, H, f ∙ ap (λ (x : ℕ). refused m x n H) (fork-named (by .met) m k n H (when-refused q m k n H f))))
+      (λ met f. inl (f ∙ ap₂ accepted (aside-rounds ∙ sym (by .rounds)) same))
+      (λ m k n H f. inr (fork-refused (by .met) m k n H f (when-refused q m k n H f)))
 
   pub unnamed-no-effect : NoEffect p q
   unnamed-no-effect = record { lowest = aside-lowest; rounds = aside-rounds; answer = aside-answer }
