@@ -7,5 +7,6 @@ pub mod GradingLaws
 pub mod Demand1
 pub mod Demand2
 pub mod Demand3
+pub mod ChangedLinesLaws
 pub mod Unnamed
 pub mod Coincide

@@ -1,27 +1,37 @@
 -- "No unnamed node but the root, fork nodes included, has an effect on grades, nor has what it names." Of the call's verdict and of the bytes that it
--- leaves in the answer, which its two `ensures` give: of two sound texts, the second with other nodes in place of such, the lowest grades are
--- the same, and where the first is accepted, so is the second, with the same bytes and rounds, unless a fork that it puts there refuses it.
+-- leaves in the answer, which the two `ensures` of `grade` give: of two sound texts, the second with other lines for such nodes, the lowest
+-- grades are the same, and where the first is accepted, so is the second, with the same bytes and rounds, unless a fork put there refuses it.
 -- Assumes nothing.
-use Prim.Native.Nat.{ℕ}
-use mathlib.Core.List.{List}
+use Prim.Native.Nat.{ℕ, _+_, _<_}
+use mathlib.Core.List.{List, []}
 use mathlib.Core.Logic.{_⊎_, inl, inr}
-use mathlib.Core.Path.{_≡_, sym, ap, ap₂, _∙_, subst}
-use lib.ListN.{length}
-use Rattle.frames.specs.Lines.{lines}
-use Rattle.frames.specs.Program.{Node}
+use mathlib.Core.Path.{_≡_, sym, ap, ap₂, _∙_}
+use lib.ListN.{length, getD}
+use Rattle.frames.specs.Lines.{lines, bytes as bytesOf}
+use Rattle.frames.specs.Frames.{Frame, framesOf, methodsIn, firstNode}
+use Rattle.frames.specs.Links.{nodeCount}
+use Rattle.frames.specs.Tables.{firstFrame}
 use Rattle.frames.specs.WellFormedLaws.{well-formed}
-use Rattle.meaning.specs.Meaning.{methodAt, body, rootOf}
+use Rattle.meaning.specs.Meaning.{methodAt, body}
 use Rattle.meaning.specs.Lowest.{methodCount, rounds, lowest}
 use Rattle.meaning.specs.Constraints.{Answer, accepted, answer}
-use Rattle.meaning.specs.Unnamed.{Unnamed, ChangedAside, ForkRefused as BrokenFork, changeNode}
-use Rattle.meaning.specs.UnnamedLaws.{unnamed-no-effect, changed-node}
+use Rattle.meaning.specs.Unnamed.{Aside, ChangedAside, ForkRefused as BrokenFork}
+use Rattle.meaning.specs.UnnamedLaws.{unnamed-no-effect}
 use Rattle.checker.specs.Grading.{programRead, byAnswer, verdictOf, bytesByAnswer, answerOf}
+use Rattle.checker.specs.ChangedLinesLaws.{frames-changed}
 use Rattle.checker.specs.Demand1.{Sound}
 use Rattle.checker.specs.Demand2.{says, bytes}
 use Rattle.checker.specs.Demand3.{Passes, Found, found}
 use Rattle.checker.specs.declared.Verdict.the-variants.{Broken}
 
 -- ---- the statement
+
+-- the second text has the first's lines, but for some of nodes that stand aside: unnamed ones but the root, and those in their trees
+pub record OtherLinesAside (text text′ : List ℕ) : Type 0 where
+  pub head : (i : ℕ) → i < firstNode (framesOf (lines text)) → getD (lines text′) i [] ≡ getD (lines text) i []
+  pub nodes : (m n : ℕ) → m < methodsIn (framesOf (lines text)) → n < nodeCount (framesOf (lines text)) m
+      → (Aside (methodAt (programRead text) m) n → ⊥)
+      → getD (lines text′) (firstFrame (framesOf (lines text)) m + n) [] ≡ getD (lines text) (firstFrame (framesOf (lines text)) m + n) []
 
 -- the same verdict, so the same rounds, and the same bytes
 pub record SameOutcome (text old text′ old′ : List ℕ) : Type 0 where
@@ -44,7 +54,7 @@ pub record NoEffect (text old text′ old′ : List ℕ) : Type 0 where
 -- ---- the proof
 
 module _ (text old text′ old′ : List ℕ) (s : Sound text (length old)) (s′ : Sound text′ (length old′)) where
-  -- of texts with any of those nodes changed, and any that they name
+  -- of texts whose programs differ in such nodes alone
   pub unnamed-of-the-call : ChangedAside (programRead text) (programRead text′) → NoEffect text old text′ old′
   unnamed-of-the-call c =
       let none = unnamed-no-effect (programRead text) (programRead text′) (well-formed (lines text) (s .lines)) c in
@@ -72,9 +82,12 @@ module _ (text old text′ old′ : List ℕ) (s : Sound text (length old)) (s�
             changed = r .changed;
           })
 
-  -- of one unnamed node but the root, changed for any other
-  pub unnamed-node-of-the-call : (m n : ℕ) (node : Node)
-      → Unnamed (body (methodAt (programRead text) m)) n → (n ≡ rootOf (methodAt (programRead text) m) → ⊥)
-      → programRead text′ ≡ changeNode m n node (programRead text) → NoEffect text old text′ old′
-  unnamed-node-of-the-call m n node unnamed notRoot e =
-      unnamed-of-the-call (subst (ChangedAside (programRead text)) (sym e) (changed-node (programRead text) m n node unnamed notRoot))
+  -- of texts with other lines of such nodes, in any way that still reads
+  pub unnamed-lines-of-the-call : OtherLinesAside text text′ → NoEffect text old text′ old′
+  unfolding framesOf
+  unnamed-lines-of-the-call c =
+      unnamed-of-the-call
+      (frames-changed (framesOf (lines text)) (framesOf (lines text′)) (λ j l. frame (c .head j l)) (λ m n l k keeps. frame (c .nodes m n l k keeps)))
+    where
+      frame : {l l′ : List ℕ} → l′ ≡ l → _≡_ {A = Frame} (λ b. getD (bytesOf l′) b 0) (λ b. getD (bytesOf l) b 0)
+      frame e = ap (λ (l : List ℕ). λ (b : ℕ). getD (bytesOf l) b 0) e
