@@ -59,13 +59,13 @@ pub record Demand3 (text old : List ℕ) : Type 0 where
 -- ---- the proof
 
 -- an accepted text's answer
-record Found (text old : List ℕ) : Type 0 where
-  rounds : ℕ
-  tables : List (List ℕ)
-  is : answer (programRead text) ≡ accepted rounds tables
-  holds : answerOf text old ≡ flat (entryOf tables)
+pub record Found (text old : List ℕ) : Type 0 where
+  pub rounds : ℕ
+  pub tables : List (List ℕ)
+  pub is : answer (programRead text) ≡ accepted rounds tables
+  pub holds : answerOf text old ≡ flat (entryOf tables)
 
-found : (text old : List ℕ) → Passes text old → Found text old
+pub found : (text old : List ℕ) → Passes text old → Found text old
 found text old p = go (answer (programRead text)) refl
   where
     go : (x : Answer) → answer (programRead text) ≡ x → Found text old

@@ -2,3 +2,4 @@
 pub mod Room
 pub mod Solved
 pub mod Grading
+pub mod ChangedLines

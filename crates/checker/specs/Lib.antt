@@ -1,9 +1,10 @@
--- The one call, and the user's three demands of it: `Grading` defines what it gives; each demand is a theorem of it; `Coincide` says that nothing else is
+-- The one call, and the user's three demands of it: `Grading` defines what it gives; each demand is a theorem of it; `Unnamed` says what has no effect; `Coincide` says that nothing else is
 -- permitted.
 pub mod Grading
 pub mod Demand1
 pub mod Demand2
 pub mod Demand3
+pub mod Unnamed
 pub mod Coincide
 -- What the code's private functions come to, and the laws behind it all.
 pub mod Code

@@ -171,6 +171,26 @@ chooses =
     single (unguarded ∷ [])
     (undeclared 0 (plain ∷ plain ∷ node 1 1 0 0 (0 ∷ []) ∷ plain ∷ node 1 3 0 0 (0 ∷ []) ∷ record { op = 4; X = 0; Y = 2; Z = 4; U = 0; names = [] } ∷ []))
 
+-- a read of the unguarded field, then either a plain value or such a read; Y and Z say which comes first
+abbrev choosesByField : (Y Z : ℕ) → Method
+choosesByField Y Z =
+    undeclared 0 (plain ∷ node 1 0 0 0 (0 ∷ []) ∷ plain ∷ plain ∷ node 1 3 0 0 (0 ∷ []) ∷ record { op = 4; X = 1; Y = Y; Z = Z; U = 0; names = [] } ∷ [])
+
+-- loops on a read of the unguarded field, with an empty body
+abbrev waits : Program
+waits = single (unguarded ∷ []) (undeclared 0 (plain ∷ node 1 0 0 0 (0 ∷ []) ∷ plain ∷ node 5 1 2 0 [] ∷ []))
+
+-- main reads the unguarded field of what it reads there; method 1 reads it twice, then writes the guarded field
+abbrev follows : Program
+follows =
+    record {
+      fields = unguarded ∷ record { width = 0; guard = 1 } ∷ [];
+      methods =
+          undeclared 0 (plain ∷ node 1 0 0 0 (0 ∷ []) ∷ node 1 1 0 0 (0 ∷ []) ∷ [])
+          ∷ undeclared 1 (plain ∷ node 1 0 0 0 (0 ∷ []) ∷ plain ∷ node 1 2 0 0 (0 ∷ []) ∷ node 2 1 3 1 (0 ∷ []) ∷ [])
+          ∷ [];
+    }
+
 -- asserts that two reads of the unguarded field, one after the other, are atomic
 abbrev asserts : Program
 asserts =
@@ -209,6 +229,10 @@ pub record WorkedCases : Type 0 where
   pub assert-broken : answer asserts ≡ refused 0 2 0 0
   pub accesses-graded : answer accesses ≡ accepted 1 ((2 ∷ []) ∷ (3 ∷ 1 ∷ []) ∷ (4 ∷ 3 ∷ []) ∷ [])
   pub loop-closed : answer loops ≡ accepted 1 ((3 ∷ []) ∷ [])
+  -- each operand counts: a choice's X, Y and Z, a read's X, a write's X and Y, and a loop's X once more, after its Y
+  pub choice-operands : answer (record { fields = unguarded ∷ []; methods = choosesByField 4 2 ∷ choosesByField 2 4 ∷ [] }) ≡ accepted 1 ((3 ∷ []) ∷ (3 ∷ []) ∷ [])
+  pub access-operands : answer follows ≡ accepted 1 ((3 ∷ []) ∷ (4 ∷ 3 ∷ []) ∷ [])
+  pub loop-operands : answer waits ≡ accepted 1 ((3 ∷ []) ∷ [])
 
 pub worked-cases : WorkedCases
 unfolding
@@ -232,4 +256,7 @@ worked-cases =
       assert-broken = refl;
       accesses-graded = refl;
       loop-closed = refl;
+      choice-operands = refl;
+      access-operands = refl;
+      loop-operands = refl;
     }

@@ -1,5 +1,4 @@
 -- What follows of the definitions, most of it under their names.
-pub mod Tree
 pub mod Meaning
 pub mod Lowest
 pub mod Rounds
@@ -8,3 +7,6 @@ pub mod Answers
 pub mod Declarations
 pub mod Changes
 pub mod Changed
+pub mod Tree
+pub mod SameRoots
+pub mod Unnamed

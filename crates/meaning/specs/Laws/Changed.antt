@@ -29,22 +29,22 @@ at-each i f (x ∷ xs) (suc m) d h =
     at-each (suc i) f xs m d (le-of-suc-le-suc h) ∙ ap (λ (j : ℕ). f j (getD xs m d)) (suc-add i m ∙ sym (add-suc i m))
 
 module _ (f : ℕ → Method → Method) (p : Program) where
-  changed-count : methodCount (changeMethods f p) ≡ methodCount p
+  pub changed-count : methodCount (changeMethods f p) ≡ methodCount p
   unfolding methodCount changeMethods
   changed-count = length-each 0 f (p .methods)
 
-  changed-at : (m : ℕ) → m < methodCount p → methodAt (changeMethods f p) m ≡ f m (methodAt p m)
+  pub changed-at : (m : ℕ) → m < methodCount p → methodAt (changeMethods f p) m ≡ f m (methodAt p m)
   unfolding methodCount methodAt changeMethods
   changed-at m h = at-each 0 f (p .methods) m noMethod h ∙ ap (λ (j : ℕ). f j (getD (p .methods) m noMethod)) (zero-add m)
 
-  changed-past : (m : ℕ) → methodCount p ≤ m → methodAt (changeMethods f p) m ≡ methodAt p m
+  pub changed-past : (m : ℕ) → methodCount p ≤ m → methodAt (changeMethods f p) m ≡ methodAt p m
   unfolding methodCount methodAt changeMethods
   changed-past m h =
       List·getD-eq-default (eachFrom 0 f (p .methods)) noMethod (subst (λ (n : ℕ). n ≤ m) (sym (length-each 0 f (p .methods))) h)
       ∙ sym (List·getD-eq-default (p .methods) noMethod h)
 
   -- what a change of each method keeps, all methods keep
-  changed : (P : Method → Method → Type 0) → ((x : Method) → P x x) → ((m : ℕ) (x : Method) → P x (f m x))
+  pub changed : (P : Method → Method → Type 0) → ((x : Method) → P x x) → ((m : ℕ) (x : Method) → P x (f m x))
       → (m : ℕ) → P (methodAt p m) (methodAt (changeMethods f p) m)
   changed P same each m = go (decLt m (methodCount p))
     where

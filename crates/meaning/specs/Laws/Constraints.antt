@@ -229,15 +229,23 @@ closed-met p a h =
           (all-right (Met p a) (onlyIf (eqb m 0) mainTable) (forksOf p m) (rest m l))) n k) t;
     }
 
-pub met-closed : (p : Program) (a : Assignment) → ClosedMet p a → All (Met p a) (closed p)
+-- what holds of the constraints of each kind holds of all
+pub all-closed : (p : Program) (P : Closed → Type 0)
+    → ((m : ℕ) → m < methodCount p → T (isDeclared p m) → P (declaredRoot m))
+    → (0 < methodCount p → P mainTable)
+    → ((m n : ℕ) → m < methodCount p → n < length (methodAt p m .nodes) → T (forkAt p m n) → P (forkedTable m n))
+    → All P (closed p)
 unfolding closed closedOfAll closedOf forksOf
-met-closed p a c =
-    all-together (Met p a) (closedOf p) (upTo (methodCount p))
-    (all-upTo (λ m. All (Met p a) (closedOf p m)) (methodCount p)
-    (λ m l. all-append (Met p a) (onlyIf (isDeclared p m) (declaredRoot m)) (onlyIf (eqb m 0) mainTable ++ forksOf p m)
-    (all-onlyIf (Met p a) (isDeclared p m) (declaredRoot m) (c .kind1 m l))
-    (all-append (Met p a) (onlyIf (eqb m 0) mainTable) (forksOf p m)
-    (all-onlyIf (Met p a) (eqb m 0) mainTable (λ t. c .kind2 (subst (λ (n : ℕ). n < methodCount p) (eqb→eq m 0 t) l)))
-    (all-together (Met p a) (λ n. onlyIf (forkAt p m n) (forkedTable m n)) (upTo (length (methodAt p m .nodes)))
-    (all-upTo (λ n. All (Met p a) (onlyIf (forkAt p m n) (forkedTable m n))) (length (methodAt p m .nodes))
-    (λ n k. all-onlyIf (Met p a) (forkAt p m n) (forkedTable m n) (c .kind3 m n l k)))))))
+all-closed p P kind1 kind2 kind3 =
+    all-together P (closedOf p) (upTo (methodCount p))
+    (all-upTo (λ m. All P (closedOf p m)) (methodCount p)
+    (λ m l. all-append P (onlyIf (isDeclared p m) (declaredRoot m)) (onlyIf (eqb m 0) mainTable ++ forksOf p m)
+    (all-onlyIf P (isDeclared p m) (declaredRoot m) (kind1 m l))
+    (all-append P (onlyIf (eqb m 0) mainTable) (forksOf p m)
+    (all-onlyIf P (eqb m 0) mainTable (λ t. kind2 (subst (λ (n : ℕ). n < methodCount p) (eqb→eq m 0 t) l)))
+    (all-together P (λ n. onlyIf (forkAt p m n) (forkedTable m n)) (upTo (length (methodAt p m .nodes)))
+    (all-upTo (λ n. All P (onlyIf (forkAt p m n) (forkedTable m n))) (length (methodAt p m .nodes))
+    (λ n k. all-onlyIf P (forkAt p m n) (forkedTable m n) (kind3 m n l k)))))))
+
+pub met-closed : (p : Program) (a : Assignment) → ClosedMet p a → All (Met p a) (closed p)
+met-closed p a c = all-closed p (Met p a) (c .kind1) (c .kind2) (c .kind3)

@@ -20,7 +20,7 @@ use Rattle.grades.specs.Laws.HeldSets.{no-name-held, held-callee, within-refl, 
 use Rattle.frames.specs.Program.{Field, Node, Program, fieldAt, methodAt, nodeAt}
 use Rattle.meaning.specs.Meaning.{Assignment, rootOf, Op, plainValue, read, write, sequence, choice, loop, synchronised, assertion, call, fork, noOp, opOf, listed, children, firstName, fieldAccess, matching, largest, calleeEntry, child, childSet, ownPart, parts, partGrade, whole, nodeGrade, below, meaning, rootTable}
 use Rattle.counting.specs.Counting.{All}
-use Rattle.meaning.specs.Laws.Tree.{InTree, itself, inside, isCall, all-among, same-tree}
+use Rattle.meaning.specs.Tree.{InTree, itself, inside, isCall, all-among, same-tree}
 use Rattle.counting.specs.Laws.Tests.{chosen, cond-most}
 
 -- ---- the callee's entry
