@@ -10,3 +10,5 @@ pub mod Verdicts
 pub mod VerdictLaws
 pub mod Room
 pub mod Solved
+pub mod Root
+pub mod RootLaws
