@@ -8,3 +8,5 @@ pub mod Demand1
 pub mod Demand2
 pub mod Demand3
 pub mod Coincide
+pub mod RootRead
+pub mod RootLaws

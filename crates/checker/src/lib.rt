@@ -1,4 +1,6 @@
-// The one call: grade a text into a lent answer.
+// The one call: grade a text into a lent answer. Beside it, a root's grade in the lowest tables.
+mod root;
+
 use frames::Outcome;
 ghost use mathlib.Core.Path.{_≡_};
 ghost use mathlib.Core.Bool.{true};
@@ -6,6 +8,8 @@ ghost use lib.ListN.{length};
 ghost use Rattle.solver.specs.Room.{hasRoom};
 ghost use Rattle.checker.specs.Grading.{verdictOf, answerOf};
 ghost use Rattle.checker.specs.Steps.{solvedVerdict, solvedBytes};
+pub use root::lowest_root;
+pub use solver::Root;
 
 // What a text comes to. Refusals 3 to 6 give their line, from 1.
 pub enum Verdict {
