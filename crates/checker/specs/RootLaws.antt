@@ -2,7 +2,7 @@
 -- Assumes nothing.
 use Prim.Native.Nat.{ℕ}
 use mathlib.Core.List.{List}
-use mathlib.Core.Path.{_≡_, sym, ap, ap₂, _∙_}
+use mathlib.Core.Path.{_≡_, sym, ap, _∙_}
 use Rattle.frames.specs.Program.{Program}
 use Rattle.frames.specs.Reading.{readText}
 use Rattle.frames.specs.declared.Outcome.{Outcome}

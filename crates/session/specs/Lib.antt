@@ -6,3 +6,6 @@ pub mod PageLaws
 pub mod Session
 pub mod SessionLaws
 pub mod SessionFacts
+pub mod Breach
+pub mod BreachFacts
+pub mod BreachLaws

@@ -1,4 +1,5 @@
 // The session: the bytes that the grading program prints for a text (document 01, "One whole session").
+mod breaches;
 mod frames_of;
 mod writing;
 
@@ -11,6 +12,7 @@ ghost use Prim.Native.Nat.{_≤_};
 ghost use lib.ListN.{length};
 ghost use Rattle.session.specs.Page.{putAt, printed};
 ghost use Rattle.session.specs.Session.{sessionOf};
+pub use breaches::breach;
 
 // The session at the front of a page that has room for the longest.
 fn print(text: &[u8], page: &mut [u8]) -> usize

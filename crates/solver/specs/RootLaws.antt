@@ -3,13 +3,12 @@
 use Prim.Native.Nat.{ℕ}
 use mathlib.Core.Bool.{Bool, true, false, cond}
 use mathlib.Core.List.{List}
-use mathlib.Core.Path.{_≡_, sym, ap, ap₂, _∙_}
+use mathlib.Core.Path.{_≡_, sym, ap, _∙_}
 use Rattle.meaning.specs.Meaning.{rootTable}
 use Rattle.meaning.specs.Lowest.{isEntry, lowest}
 use Rattle.solver.specs.Engine.{programIn}
 use Rattle.solver.specs.Room.{hasRoom}
 use Rattle.solver.specs.Root.{lowestRoot, rootIn}
-use Rattle.solver.specs.declared.root.Root.{Root}
 use Rattle.solver.specs.declared.root.Root.the-variants.{Grade, Nothing}
 
 module _ (t : List ℕ) (m H : ℕ) where
