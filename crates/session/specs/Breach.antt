@@ -13,6 +13,10 @@ use Rattle.checker.specs.declared.Verdict.{Verdict}
 use Rattle.checker.specs.declared.Verdict.the-variants.{Accepted, WrongLength, Overlong, Malformed, Misplaced, OutOfRange, Unlinked, Broken}
 use Rattle.session.specs.Writing.{lineOf}
 
+-- how many bytes its line has: ten digits and 0A
+abbrev pub breachLength : ℕ
+breachLength = 11
+
 -- the breach frame: 1E, method, held set, and at that entry the declared grade and the root's grade in the lowest tables
 unfoldable pub breachFrame : Program → (method set : ℕ) → List ℕ
 breachFrame p method set = 0x1E ∷ method ∷ set ∷ declaredTable p method set ∷ rootTable p (lowest p) method set ∷ []

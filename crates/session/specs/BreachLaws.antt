@@ -27,7 +27,7 @@ use Rattle.checker.specs.GradingLaws.{read-program}
 use Rattle.checker.specs.RootLaws.{root-by}
 use Rattle.checker.specs.RootRead.{rootRead}
 use Rattle.checker.specs.declared.Verdict.{Verdict}
-use Rattle.session.specs.Breach.{breachFrame, breachBy, breachOf}
+use Rattle.session.specs.Breach.{breachLength, breachFrame, breachBy, breachOf}
 use Rattle.session.specs.BreachFacts.{Breach}
 use Rattle.session.specs.Page.{putAt}
 use Rattle.session.specs.PageLaws.{put-none}
@@ -69,7 +69,7 @@ module _ (text : List ℕ) (m H : ℕ) (b : Breach text m H) where
 
 -- what is printed by a verdict
 abbrev pub Printed : (s page : List ℕ) (r : ℕ) (after : List ℕ) → Type 0
-Printed s page r after = ((r ≡ length s) × (r ≤ 11)) × (after ≡ putAt page 0 s)
+Printed s page r after = ((r ≡ length s) × (r ≤ breachLength)) × (after ≡ putAt page 0 s)
 
 pub by-verdict : (text page : List ℕ) (verdict v : Verdict) (r : ℕ) (after : List ℕ) → verdict ≡ verdictOf text answerLength → verdict ≡ v
     → Printed (breachBy v (programRead text)) page r after → Printed (breachOf text) page r after

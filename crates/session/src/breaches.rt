@@ -11,8 +11,11 @@ ghost use Rattle.meaning.specs.Lowest.{declaredTable};
 ghost use Rattle.checker.specs.Grading.{programRead};
 ghost use Rattle.session.specs.Writing.{lineOf};
 ghost use Rattle.session.specs.Page.{putAt, printed};
-ghost use Rattle.session.specs.Breach.{breachFrame, breachOf};
+ghost use Rattle.session.specs.Breach.{breachLength, breachFrame, breachOf};
 ghost use Rattle.session.specs.BreachFacts.{Breach};
+
+// How many bytes a breach's line has: ten digits and 0A.
+pub const BREACH_LENGTH: usize = 11;
 
 // The declared grade. The text's tables are read again for it.
 fn declared_grade(text: &[u8], method: usize, set: usize) -> u8
@@ -25,11 +28,11 @@ fn declared_grade(text: &[u8], method: usize, set: usize) -> u8
     frames::entry(&bytes, method, set) as u8
 }
 
-// The line of a breach.
+// The line of a breach. Its method has that held set, so there is a root's grade.
 fn put_breach(text: &[u8], method: usize, set: usize, page: &mut [u8]) -> usize
     requires { ⌜ Breach (now text) method set ⌝ }
-    requires { ⌜ length (now page) ≡ 11 ⌝ }
-    ensures { λ r. ⌜ (r ≡ length (lineOf (breachFrame (programRead (now (text .entry))) method set))) × (r ≤ 11) ⌝ }
+    requires { ⌜ length (now page) ≡ breachLength ⌝ }
+    ensures { λ r. ⌜ (r ≡ length (lineOf (breachFrame (programRead (now (text .entry))) method set))) × (r ≤ breachLength) ⌝ }
     ensures { λ _. ⌜ now (page .exit) ≡ putAt (now (page .entry)) 0 (lineOf (breachFrame (programRead (now (text .entry))) method set)) ⌝ }
 {
     let found = checker::lowest_root(text, method, set);
@@ -46,10 +49,10 @@ fn put_breach(text: &[u8], method: usize, set: usize, page: &mut [u8]) -> usize
     put_line(&frame, page)
 }
 
-// The breach at the front of a page that has just room for its ten digits and 0A.
+// The breach at the front of a page that has just room for it.
 fn print_breach(text: &[u8], page: &mut [u8]) -> usize
-    requires { ⌜ length (now page) ≡ 11 ⌝ }
-    ensures { λ r. ⌜ (r ≡ length (breachOf (now (text .entry)))) × (r ≤ 11) ⌝ }
+    requires { ⌜ length (now page) ≡ breachLength ⌝ }
+    ensures { λ r. ⌜ (r ≡ length (breachOf (now (text .entry)))) × (r ≤ breachLength) ⌝ }
     ensures { λ _. ⌜ now (page .exit) ≡ putAt (now (page .entry)) 0 (breachOf (now (text .entry))) ⌝ }
 {
     let mut answer = [0u8; 1024];
@@ -69,13 +72,13 @@ fn print_breach(text: &[u8], page: &mut [u8]) -> usize
     put_breach(text, method, set, page)
 }
 
-// What is printed of a broken declaration, at the front of the lent buffer, and how many bytes that is: 11 for a text that is refused by 7
-// with kind 1, none for every other. Where the buffer is too short it is left as it was, and the count says how long it must be.
+// What is printed of a broken declaration, at the front of the lent buffer, and how many bytes that is: a line for a text that is refused by
+// 7 with kind 1, none for every other. Where the buffer is too short it is left as it was, and the count says how long it must be.
 pub fn breach(text: &[u8], out: &mut [u8]) -> usize
     ensures { λ r. ⌜ r ≡ length (breachOf (now (text .entry))) ⌝ }
     ensures { λ _. ⌜ now (out .exit) ≡ printed (breachOf (now (text .entry))) (now (out .entry)) ⌝ }
 {
-    let mut page = [0u8; 11];
+    let mut page = [0u8; BREACH_LENGTH];
     let n = print_breach(text, &mut page);
     if out.len() < n {
         return n;

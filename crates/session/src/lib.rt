@@ -12,6 +12,7 @@ ghost use Prim.Native.Nat.{_≤_};
 ghost use lib.ListN.{length};
 ghost use Rattle.session.specs.Page.{putAt, printed};
 ghost use Rattle.session.specs.Session.{sessionOf};
+pub use breaches::BREACH_LENGTH;
 pub use breaches::breach;
 
 // The session at the front of a page that has room for the longest.
