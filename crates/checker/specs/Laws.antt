@@ -3,3 +3,4 @@ pub mod Room
 pub mod Solved
 pub mod Grading
 pub mod ChangedLines
+pub mod Root

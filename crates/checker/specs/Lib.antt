@@ -6,6 +6,8 @@ pub mod Demand2
 pub mod Demand3
 pub mod Unnamed
 pub mod Coincide
+-- What a method's root is graded, of a text.
+pub mod RootRead
 -- What the code's private functions come to, and the laws behind it all.
 pub mod Code
 pub mod Laws

@@ -1,4 +1,6 @@
-// The one call: grade a text into a lent answer.
+// The one call: grade a text into a lent answer. Beside it, a root's grade in the lowest tables.
+mod root;
+
 use frames::Outcome;
 use frames::layout::ANSWER_LENGTH;
 ghost use mathlib.Core.Path.{_≡_};
@@ -8,6 +10,8 @@ ghost use Rattle.frames.specs.Layout.{answerLength};
 ghost use Rattle.solver.specs.Room.{hasRoom};
 ghost use Rattle.checker.specs.Grading.{verdictOf, answerOf};
 ghost use Rattle.checker.specs.Code.Steps.{solvedVerdict, solvedBytes};
+pub use root::lowest_root;
+pub use solver::Root;
 
 // What a text comes to. Refusals 3 to 6 give their line, from 1.
 pub enum Verdict {

@@ -2,3 +2,4 @@
 pub mod Writing
 pub mod Page
 pub mod Session
+pub mod Breach

@@ -4,4 +4,7 @@ pub mod Writing
 pub mod Session
 pub mod Page
 pub mod SessionFacts
+-- What is printed of a broken declaration, and that it is true.
+pub mod Breach
+pub mod BreachFacts
 pub mod Laws

@@ -23,7 +23,7 @@ fn high(n: usize) -> u8
     (n / 256 % 256) as u8
 }
 
-fn low(n: usize) -> u8
+pub(crate) fn low(n: usize) -> u8
     ensures { λ r. ⌜ r ≡ low n ⌝ }
 {
     (n % 256) as u8

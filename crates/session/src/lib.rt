@@ -1,4 +1,5 @@
 // The session: the bytes that the grading program prints for a text (document 01, "One whole session").
+mod breaches;
 mod frames_of;
 mod writing;
 
@@ -15,6 +16,8 @@ ghost use Prim.Native.Nat.{_≤_};
 ghost use lib.ListN.{length};
 ghost use Rattle.session.specs.Page.{putAt, printed};
 ghost use Rattle.session.specs.Session.{sessionOf, longestSession};
+pub use breaches::BREACH_LENGTH;
+pub use breaches::breach;
 
 // Room for any text: of a longer one these bytes are enough, since it is refused for its length alone.
 pub const TEXT_ROOM: usize = MOST_TEXT + 1;

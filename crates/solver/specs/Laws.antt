@@ -5,3 +5,4 @@ pub mod Flat
 pub mod Rounds
 pub mod Findings
 pub mod Room
+pub mod Root

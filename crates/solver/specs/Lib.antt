@@ -5,6 +5,7 @@ pub mod Flat
 pub mod Findings
 pub mod Room
 pub mod Solved
+pub mod Root
 -- What the code's private functions come to, and the laws behind it all.
 pub mod Code
 pub mod Laws

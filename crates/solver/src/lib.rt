@@ -2,6 +2,7 @@
 mod constraints;
 mod node;
 mod room;
+mod root;
 mod rounds;
 
 use constraints::first_broken;
@@ -12,6 +13,8 @@ use rounds::starts_of;
 ghost use mathlib.Core.Path.{_≡_};
 ghost use Rattle.solver.specs.Solved.{solved};
 pub use constraints::Finding;
+pub use root::Root;
+pub use root::lowest_root;
 
 // What checked tables come to. The grades are the lowest, also where they break a constraint.
 pub struct Solved {

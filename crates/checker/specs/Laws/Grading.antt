@@ -50,7 +50,7 @@ right-bytes text old o h e = ap₂ (λ (b : Bool) (x : Outcome). cond b (bytesBy
 pub read-room : (text : List ℕ) → readText text .outcome ≡ Outcome.Whole → hasRoom (readText text .tables .bytes) ≡ true
 read-room text e = well-formed-room (readText text .tables .bytes) (read-well-formed text e)
 
-read-program : (text : List ℕ) → readText text .outcome ≡ Outcome.Whole → programIn (readText text .tables .bytes) ≡ programRead text
+pub read-program : (text : List ℕ) → readText text .outcome ≡ Outcome.Whole → programIn (readText text .tables .bytes) ≡ programRead text
 read-program text e = ap programOf (tables-stand text e)
 
 pub read-verdict : (text : List ℕ) (n : ℕ) → n ≡ answerLength → readText text .outcome ≡ Outcome.Whole → solvedVerdict (readText text .tables .bytes) ≡ verdictOf text n

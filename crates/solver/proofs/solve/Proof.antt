@@ -5,7 +5,6 @@ use native.Mathlib.Omega.{arith}
 use denote.Ref.{now}
 use mathlib.Core.Bool.{Bool, true}
 use mathlib.Core.List.{List}
-use Rattle.frames.specs.Layout.{layout}
 use Rattle.meaning.specs.Lowest.{methodCount, rounds, lowest}
 use Rattle.solver.specs.declared.Solved.{Solved}
 use Rattle.solver.specs.declared.constraints.Finding.{Finding}
