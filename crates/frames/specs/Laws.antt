@@ -13,3 +13,5 @@ pub mod Going
 pub mod OneText
 pub mod WholeText
 pub mod WellFormed
+pub mod FirstFault
+pub mod SoFar

@@ -9,10 +9,8 @@ pub mod Links
 pub mod Tables
 pub mod Reading
 pub mod Refusals
--- What is promised of it: each refusal is given exactly in its case, by the lines so far alone; what a program that reads is like; and all that
--- reading comes to.
+-- What is promised of it: each refusal names the first fault, a program that reads is well formed, and all that reading comes to.
 pub mod FirstFault
-pub mod SoFar
 pub mod WellFormed
 pub mod Promises
 -- What the code's private functions come to, and the laws behind it all.

@@ -15,7 +15,7 @@ use Rattle.frames.specs.Frames.{Frames, framesOf, due}
 use Rattle.frames.specs.Tables.{cell, tableOf, programOf}
 use Rattle.frames.specs.Laws.Tables.{cell-in, cell-past-frame, cell-past-byte}
 use Rattle.frames.specs.Reading.{faultAt, readAll, outcomeOf, noTables, tablesOf, checkedLines, readText}
-use Rattle.frames.specs.FirstFault.{Lowest, lowest, First, Faultless, Stops, stops, exactly, exactly-read}
+use Rattle.frames.specs.FirstFault.{Lowest, First, Faultless}
 use Rattle.frames.specs.Laws.Sound.{passes-at, header-sound, not-over}
 use Rattle.frames.specs.Laws.Steps.{placed-short}
 use Rattle.frames.specs.Laws.WholeText.{fault-outcome, text-lines, read-long}
@@ -30,6 +30,7 @@ use Rattle.frames.specs.declared.Fault.{Fault}
 use Rattle.frames.specs.declared.Fault.the-variants.{Sound, Malformed, Misplaced, OutOfRange, Unlinked}
 use Rattle.counting.specs.Laws.Tests.{lt-or-le}
 use Rattle.counting.specs.Laws.Lists.{getD-tabulate}
+use Rattle.frames.specs.Laws.FirstFault.{lowest, Stops, stops, exactly, exactly-read}
 
 -- ---- the fault and the lines before it, from an outcome
 

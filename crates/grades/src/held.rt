@@ -1,18 +1,10 @@
 // Held sets as masks: bit j says that name j is held. A byte's mask carries names 0 to 7.
 ghost use mathlib.Core.Path.{_≡_};
-ghost use Prim.Native.Nat.{min};
 ghost use lib.ListN.{take};
-ghost use Rattle.grades.specs.HeldSets.{maskNames, entries, held, addWithin, calleeSet};
+ghost use Rattle.grades.specs.HeldSets.{maskNames, held, addWithin, calleeSet};
 
 // How many names a mask carries.
 pub const NAMES: u8 = 8;
-
-// How many held sets there are over k names. More names than a mask carries count as those it carries.
-pub fn entries(k: u8) -> usize
-    ensures { λ r. ⌜ r ≡ entries (min k maskNames) ⌝ }
-{
-    if k < NAMES { 1usize << k } else { 256 }
-}
 
 // Whether a name is in the set. FF, and any other number that the mask has no bit for, is in no set.
 pub fn holds(set: u8, name: u8) -> bool
