@@ -17,7 +17,7 @@ use Rattle.solver.specs.Code.Engine.{nodeIn, firstNodeFrame, lastFrame}
 use Rattle.counting.specs.Counting.{every}
 
 unfoldable pub namesFit : List ℕ → (methods : ℕ) → Bool
-namesFit t methods = every methods (λ m. leb (methodOf (cell t) m .k) 4)
+namesFit t methods = every methods (λ m. leb (methodOf (cell t) m .k) (layout .mostNames))
 
 unfoldable pub lockFits : List ℕ → (j : ℕ) → Bool
 lockFits t j = not (eqb (nodeIn t j .op) 6) || ltb (getD (nodeIn t j .names) 0 0) maskNames

@@ -59,8 +59,8 @@ module _ (t : List ℕ) (w : WellFormed (programOf (cell t))) where
   within : (m : ℕ) → m < methodsIn (cell t) → m < length (programOf (cell t) .methods)
   within m h = omega (arith, methods-length (cell t))
 
-  few-names : (m : ℕ) → m < methodsIn (cell t) → methodOf (cell t) m .k ≤ 4
-  few-names m h = subst (λ (x : Method). x .k ≤ 4) (own-method m h) (w .methods m (within m h) .names)
+  few-names : (m : ℕ) → m < methodsIn (cell t) → methodOf (cell t) m .k ≤ layout .mostNames
+  few-names m h = subst (λ (x : Method). x .k ≤ layout .mostNames) (own-method m h) (w .methods m (within m h) .names)
 
   few-frames : lastFrame t ≤ layout .mostFrames
   few-frames =
@@ -110,6 +110,6 @@ module _ (t : List ℕ) (w : WellFormed (programOf (cell t))) where
       ap₂ _&&_ (le-leb (methodsIn (cell t)) (layout .mostMethods) (omega (arith, w .fewMethods, methods-length (cell t))))
       (ap₂ _&&_ (le-leb (lastFrame t) (layout .mostFrames) few-frames)
       (ap₂ _&&_
-      (truth (namesFit t (methodsIn (cell t))) (every-of (methodsIn (cell t)) _ (λ m l. subst T (sym (le-leb (methodOf (cell t) m .k) 4 (few-names m l))) tt)))
+      (truth (namesFit t (methodsIn (cell t))) (every-of (methodsIn (cell t)) _ (λ m l. subst T (sym (le-leb (methodOf (cell t) m .k) (layout .mostNames) (few-names m l))) tt)))
       (truth (locksFit t (firstNodeFrame t) (lastFrame t - firstNodeFrame t))
       (every-of (lastFrame t - firstNodeFrame t) _ (λ n l. lock-fits (firstNodeFrame t + n) (omega arith) (omega arith))))))

@@ -8,6 +8,7 @@ use native.Mathlib.Omega.{arith}
 use native.Mathlib.Nat.{le-refl}
 use native.Mathlib.Decide.{ℕ-discrete}
 use lib.Dec.{ltb, eqb}
+use Rattle.frames.specs.Layout.{layout}
 use Rattle.frames.specs.Frames.{Frame, Frames, two, due, methodsIn, fieldsIn, nodesIn, fieldFrame, methodFrame, firstMethod, firstNode}
 use Rattle.frames.specs.Ranges.{inRange, headerInRange, fieldInRange, methodInRange, nodeInRange}
 use Rattle.frames.specs.Links.{nodesBefore, guardUses, accessLinked, callNameLinked, callLinked, forkLinked, namesLinked, methodLinked}
@@ -24,13 +25,13 @@ agree-due f g i e = ap (λ (r : Frame). due (λ j. r) i) e
 
 module _ (f g : Frames) (i : ℕ) (same : (j : ℕ) → j ≤ i → g j ≡ f j) where
   pub agree-fields : fieldsIn g ≡ fieldsIn f
-  agree-fields = ap (λ (r : Frame). r 2) (same 0 zero-le)
+  agree-fields = ap (λ (r : Frame). r (layout .fieldsAt)) (same 0 zero-le)
 
   pub agree-methods : methodsIn g ≡ methodsIn f
-  agree-methods = ap (λ (r : Frame). r 1) (same 0 zero-le)
+  agree-methods = ap (λ (r : Frame). r (layout .methodsAt)) (same 0 zero-le)
 
   pub agree-nodes : nodesIn g ≡ nodesIn f
-  agree-nodes = ap (λ (r : Frame). two r 3) (same 0 zero-le)
+  agree-nodes = ap (λ (r : Frame). two r (layout .nodesAt)) (same 0 zero-le)
 
   pub agree-range : (d : Due) → inRange g d i ≡ inRange f d i
   unfolding inRange
@@ -50,7 +51,7 @@ module _ (f g : Frames) (i : ℕ) (same : (j : ℕ) → j ≤ i → g j ≡ f j)
   agree-before zero h = refl
   agree-before (suc m) h =
       let r = agree-before m (omega arith) in
-      let e = ap (λ (r : Frame). two r 2) (agree-method m (omega arith)) in
+      let e = ap (λ (r : Frame). two r (layout .countAt)) (agree-method m (omega arith)) in
       omega (arith, r, e)
 
   pub agree-method-linked : (m : ℕ) → firstMethod f + m ≡ i → methodLinked g m ≡ methodLinked f m
@@ -70,30 +71,30 @@ module _ (f g : Frames) (i : ℕ) (same : (j : ℕ) → j ≤ i → g j ≡ f j)
     unfolding accessLinked
     agree-access =
         ⊎-elim
-        (λ (l : r 8 < fieldsIn f).
-        ap (λ (n : ℕ). ltb (r 8) n && cond (guardUses (fieldFrame g (r 8) 2)) (ltb (r 9) k || eqb (r 9) 255) (eqb (r 9) 0)) agree-fields
-        ∙ ap (λ (q : Frame). ltb (r 8) (fieldsIn f) && cond (guardUses (q 2)) (ltb (r 9) k || eqb (r 9) 255) (eqb (r 9) 0)) (same (1 + r 8) (omega arith)))
-        (λ (o : fieldsIn f ≤ r 8). access-outside g k r (omega (arith, agree-fields)) ∙ sym (access-outside f k r o))
-        (lt-or-le (r 8) (fieldsIn f))
+        (λ (l : r (layout .UAt) < fieldsIn f).
+        ap (λ (n : ℕ). ltb (r (layout .UAt)) n && cond (guardUses (fieldFrame g (r (layout .UAt)) (layout .guardAt))) (ltb (r (layout .namesAt)) k || eqb (r (layout .namesAt)) (layout .noName)) (eqb (r (layout .namesAt)) 0)) agree-fields
+        ∙ ap (λ (q : Frame). ltb (r (layout .UAt)) (fieldsIn f) && cond (guardUses (q (layout .guardAt))) (ltb (r (layout .namesAt)) k || eqb (r (layout .namesAt)) (layout .noName)) (eqb (r (layout .namesAt)) 0)) (same (1 + r (layout .UAt)) (omega arith)))
+        (λ (o : fieldsIn f ≤ r (layout .UAt)). access-outside g k r (omega (arith, agree-fields)) ∙ sym (access-outside f k r o))
+        (lt-or-le (r (layout .UAt)) (fieldsIn f))
 
     agree-call : callLinked g k r ≡ callLinked f k r
     agree-call =
         ⊎-elim
-        (λ (l : r 8 < methodsIn f).
+        (λ (l : r (layout .UAt) < methodsIn f).
         call-inside g k r (omega (arith, agree-methods))
-        ∙ (ap (λ (q : Frame). every 4 (callNameLinked (q 1) k r)) (agree-method (r 8) (omega arith))
+        ∙ (ap (λ (q : Frame). every (layout .names) (callNameLinked (q (layout .kAt)) k r)) (agree-method (r (layout .UAt)) (omega arith))
         ∙ sym (call-inside f k r l)))
-        (λ (o : methodsIn f ≤ r 8). call-outside g k r (omega (arith, agree-methods)) ∙ sym (call-outside f k r o))
-        (lt-or-le (r 8) (methodsIn f))
+        (λ (o : methodsIn f ≤ r (layout .UAt)). call-outside g k r (omega (arith, agree-methods)) ∙ sym (call-outside f k r o))
+        (lt-or-le (r (layout .UAt)) (methodsIn f))
 
     agree-fork : forkLinked g r ≡ forkLinked f r
     agree-fork =
         ⊎-elim
-        (λ (l : r 8 < methodsIn f).
+        (λ (l : r (layout .UAt) < methodsIn f).
         fork-inside g k r (omega (arith, agree-methods))
-        ∙ (ap (λ (q : Frame). ltb 0 (q 1)) (agree-method (r 8) (omega arith)) ∙ sym (fork-inside f k r l)))
-        (λ (o : methodsIn f ≤ r 8). fork-outside g k r (omega (arith, agree-methods)) ∙ sym (fork-outside f k r o))
-        (lt-or-le (r 8) (methodsIn f))
+        ∙ (ap (λ (q : Frame). ltb 0 (q (layout .kAt))) (agree-method (r (layout .UAt)) (omega arith)) ∙ sym (fork-inside f k r l)))
+        (λ (o : methodsIn f ≤ r (layout .UAt)). fork-outside g k r (omega (arith, agree-methods)) ∙ sym (fork-outside f k r o))
+        (lt-or-le (r (layout .UAt)) (methodsIn f))
 
     pub agree-names : namesLinked g k r ≡ namesLinked f k r
     unfolding namesLinked

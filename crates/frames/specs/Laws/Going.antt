@@ -161,9 +161,9 @@ module _ {text : List ℕ} {ls : List (List ℕ)} {t N : List ℕ} {at line i : 
         let q : firstNode f + a ≡ i = omega arith in
         rw (u, o, q, going-children e)
         (ap (λ (b : Bool). fresh (s .number) (namedBy f (nodesBefore f (s .method)) (s .number)) (childrenOf (f i)) && b)
-        (ap (λ (r : Frame). namesLinked g (methodFrame g (s .method) 1) r) (same i (le-refl i))
-        ∙ (ap (λ (r : Frame). namesLinked g (r 1) (f i)) (agree-method f g i same (s .method) (n .passed))
-        ∙ agree-names f g i same (w .1) (methodFrame f (s .method) 1) (f i))))
+        (ap (λ (r : Frame). namesLinked g (methodFrame g (s .method) (layout .kAt)) r) (same i (le-refl i))
+        ∙ (ap (λ (r : Frame). namesLinked g (r (layout .kAt)) (f i)) (agree-method f g i same (s .method) (n .passed))
+        ∙ agree-names f g i same (w .1) (methodFrame f (s .method) (layout .kAt)) (f i))))
 
     going-linked : (d : Due) → due (framesOf ls) i ≡ d → linkedBy g N d i (s .method) (s .number) ≡ linked (framesOf ls) d i
     unfolding linkedBy linked
@@ -295,7 +295,7 @@ module _ {text : List ℕ} {ls : List (List ℕ)} {t N : List ℕ} {at line i : 
   standing-next Node e m s′ q = by (ℕ-discrete (s .number + 1) (nodeCount g (s .method)))
     where
       count : nodeCount g (s .method) ≡ nodeCount (framesOf ls) (s .method)
-      count = ap (λ (r : Frame). two r 2) (agree-method (framesOf ls) g i same (s .method) (at-node go e .passed))
+      count = ap (λ (r : Frame). two r (layout .countAt)) (agree-method (framesOf ls) g i same (s .method) (at-node go e .passed))
 
       by : Dec (s .number + 1 ≡ nodeCount g (s .method)) → Standing (framesOf ls) (goingOn g N Node i s′) (i + 1) s′
       by (yes p) =

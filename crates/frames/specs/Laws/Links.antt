@@ -10,6 +10,7 @@ use lib.Dec.{ltb, eqb}
 use lib.ListN.{getD, set, take}
 use lib.Seq.{take-nil}
 use borrow.Author.Tests.{lt-ltb, le-ltb, eq-eqb, ne-eqb}
+use Rattle.frames.specs.Layout.{layout}
 use Rattle.frames.specs.Frames.{Frame, Frames, two, methodsIn, fieldsIn, nodesIn, fieldFrame, methodFrame, firstMethod}
 use Rattle.frames.specs.Ranges.{childrenListed}
 use Rattle.frames.specs.Links.{childrenOf, nameOrNone, guardUses, accessLinked, callNameLinked, callLinked, forkLinked, namesLinked, methodLinked, nodesBefore}
@@ -68,11 +69,11 @@ named-fails n N N₁ N₂ xs ys r a e =
 
 -- the children of a node, X, Y and Z apart
 pub children-apart : (r : Frame) → childrenOf r
-    ≡ listed (ltb 0 (childrenListed (r 1))) (two r 2) ++ (listed (ltb 1 (childrenListed (r 1))) (two r 4) ++ listed (ltb 2 (childrenListed (r 1))) (two r 6))
+    ≡ listed (ltb 0 (childrenListed (r (layout .opAt)))) (two r (layout .XAt)) ++ (listed (ltb 1 (childrenListed (r (layout .opAt)))) (two r (layout .YAt)) ++ listed (ltb 2 (childrenListed (r (layout .opAt)))) (two r (layout .ZAt)))
 unfolding childrenOf
-children-apart r = go (childrenListed (r 1))
+children-apart r = go (childrenListed (r (layout .opAt)))
   where
-    go : (n : ℕ) → take n (two r 2 ∷ two r 4 ∷ two r 6 ∷ []) ≡ listed (ltb 0 n) (two r 2) ++ (listed (ltb 1 n) (two r 4) ++ listed (ltb 2 n) (two r 6))
+    go : (n : ℕ) → take n (two r (layout .XAt) ∷ two r (layout .YAt) ∷ two r (layout .ZAt) ∷ []) ≡ listed (ltb 0 n) (two r (layout .XAt)) ++ (listed (ltb 1 n) (two r (layout .YAt)) ++ listed (ltb 2 n) (two r (layout .ZAt)))
     go zero = refl
     go (suc zero) = refl
     go (suc (suc zero)) = refl
@@ -80,66 +81,66 @@ children-apart r = go (childrenListed (r 1))
 
 -- an access, a call and a fork, by the tests that the code makes
 module _ (f : Frames) (k : ℕ) (r : Frame) where
-  pub access-outside : fieldsIn f ≤ r 8 → accessLinked f k r ≡ false
+  pub access-outside : fieldsIn f ≤ r (layout .UAt) → accessLinked f k r ≡ false
   unfolding accessLinked
-  access-outside h = rw (le-ltb (r 8) (fieldsIn f) h)
+  access-outside h = rw (le-ltb (r (layout .UAt)) (fieldsIn f) h)
 
-  pub access-used : r 8 < fieldsIn f → guardUses (fieldFrame f (r 8) 2) ≡ true → accessLinked f k r ≡ nameOrNone k (r 9)
+  pub access-used : r (layout .UAt) < fieldsIn f → guardUses (fieldFrame f (r (layout .UAt)) (layout .guardAt)) ≡ true → accessLinked f k r ≡ nameOrNone k (r (layout .namesAt))
   unfolding accessLinked
-  access-used h g = rw (lt-ltb (r 8) (fieldsIn f) h, g)
+  access-used h g = rw (lt-ltb (r (layout .UAt)) (fieldsIn f) h, g)
 
-  pub access-unused : r 8 < fieldsIn f → guardUses (fieldFrame f (r 8) 2) ≡ false → accessLinked f k r ≡ eqb (r 9) 0
+  pub access-unused : r (layout .UAt) < fieldsIn f → guardUses (fieldFrame f (r (layout .UAt)) (layout .guardAt)) ≡ false → accessLinked f k r ≡ eqb (r (layout .namesAt)) 0
   unfolding accessLinked
-  access-unused h g = rw (lt-ltb (r 8) (fieldsIn f) h, g)
+  access-unused h g = rw (lt-ltb (r (layout .UAt)) (fieldsIn f) h, g)
 
-  pub call-outside : methodsIn f ≤ r 8 → callLinked f k r ≡ false
+  pub call-outside : methodsIn f ≤ r (layout .UAt) → callLinked f k r ≡ false
   unfolding callLinked
-  call-outside h = rw (le-ltb (r 8) (methodsIn f) h)
+  call-outside h = rw (le-ltb (r (layout .UAt)) (methodsIn f) h)
 
-  pub call-inside : r 8 < methodsIn f → callLinked f k r ≡ every 4 (callNameLinked (methodFrame f (r 8) 1) k r)
+  pub call-inside : r (layout .UAt) < methodsIn f → callLinked f k r ≡ every (layout .names) (callNameLinked (methodFrame f (r (layout .UAt)) (layout .kAt)) k r)
   unfolding callLinked
-  call-inside h = rw (lt-ltb (r 8) (methodsIn f) h)
+  call-inside h = rw (lt-ltb (r (layout .UAt)) (methodsIn f) h)
 
-  pub call-name-needed : (callee j : ℕ) → j < callee → callNameLinked callee k r j ≡ nameOrNone k (r (9 + j))
+  pub call-name-needed : (callee j : ℕ) → j < callee → callNameLinked callee k r j ≡ nameOrNone k (r (layout .namesAt + j))
   unfolding callNameLinked
   call-name-needed callee j h = rw (lt-ltb j callee h)
 
-  pub call-name-none : (callee j : ℕ) → callee ≤ j → callNameLinked callee k r j ≡ eqb (r (9 + j)) 0
+  pub call-name-none : (callee j : ℕ) → callee ≤ j → callNameLinked callee k r j ≡ eqb (r (layout .namesAt + j)) 0
   unfolding callNameLinked
   call-name-none callee j h = rw (le-ltb j callee h)
 
-  pub fork-outside : methodsIn f ≤ r 8 → forkLinked f r ≡ false
+  pub fork-outside : methodsIn f ≤ r (layout .UAt) → forkLinked f r ≡ false
   unfolding forkLinked
-  fork-outside h = rw (le-ltb (r 8) (methodsIn f) h)
+  fork-outside h = rw (le-ltb (r (layout .UAt)) (methodsIn f) h)
 
-  pub fork-inside : r 8 < methodsIn f → forkLinked f r ≡ ltb 0 (methodFrame f (r 8) 1)
+  pub fork-inside : r (layout .UAt) < methodsIn f → forkLinked f r ≡ ltb 0 (methodFrame f (r (layout .UAt)) (layout .kAt))
   unfolding forkLinked
-  fork-inside h = rw (lt-ltb (r 8) (methodsIn f) h)
+  fork-inside h = rw (lt-ltb (r (layout .UAt)) (methodsIn f) h)
 
   -- the names, by op
-  pub names-read : r 1 ≡ 1 → namesLinked f k r ≡ accessLinked f k r
+  pub names-read : r (layout .opAt) ≡ 1 → namesLinked f k r ≡ accessLinked f k r
   unfolding namesLinked
   names-read e = rw e
 
-  pub names-write : r 1 ≡ 2 → namesLinked f k r ≡ accessLinked f k r
+  pub names-write : r (layout .opAt) ≡ 2 → namesLinked f k r ≡ accessLinked f k r
   unfolding namesLinked
   names-write e = rw e
 
-  pub names-synchronised : r 1 ≡ 6 → namesLinked f k r ≡ ltb (r 9) k
+  pub names-synchronised : r (layout .opAt) ≡ 6 → namesLinked f k r ≡ ltb (r (layout .namesAt)) k
   unfolding namesLinked
   names-synchronised e = rw e
 
-  pub names-call : r 1 ≡ 8 → namesLinked f k r ≡ callLinked f k r
+  pub names-call : r (layout .opAt) ≡ 8 → namesLinked f k r ≡ callLinked f k r
   unfolding namesLinked
   names-call e = rw e
 
-  pub names-fork : r 1 ≡ 9 → namesLinked f k r ≡ forkLinked f r
+  pub names-fork : r (layout .opAt) ≡ 9 → namesLinked f k r ≡ forkLinked f r
   unfolding namesLinked
   names-fork e = rw e
 
-  pub names-other : (r 1 ≡ 1 → ⊥) → (r 1 ≡ 2 → ⊥) → (r 1 ≡ 6 → ⊥) → (r 1 ≡ 8 → ⊥) → (r 1 ≡ 9 → ⊥) → namesLinked f k r ≡ true
+  pub names-other : (r (layout .opAt) ≡ 1 → ⊥) → (r (layout .opAt) ≡ 2 → ⊥) → (r (layout .opAt) ≡ 6 → ⊥) → (r (layout .opAt) ≡ 8 → ⊥) → (r (layout .opAt) ≡ 9 → ⊥) → namesLinked f k r ≡ true
   unfolding namesLinked
-  names-other a b d e g = rw (ne-eqb (r 1) 1 a, ne-eqb (r 1) 2 b, ne-eqb (r 1) 6 d, ne-eqb (r 1) 8 e, ne-eqb (r 1) 9 g)
+  names-other a b d e g = rw (ne-eqb (r (layout .opAt)) 1 a, ne-eqb (r (layout .opAt)) 2 b, ne-eqb (r (layout .opAt)) 6 d, ne-eqb (r (layout .opAt)) 8 e, ne-eqb (r (layout .opAt)) 9 g)
 
 -- the last method line, and the others
 pub method-last : (f : Frames) (m : ℕ) → m + 1 ≡ methodsIn f → methodLinked f m ≡ eqb (nodesBefore f (methodsIn f)) (nodesIn f)
@@ -151,16 +152,16 @@ unfolding methodLinked
 method-earlier f m e = rw (ne-eqb (suc m) (methodsIn f) (λ g. e (add-one m ∙ g)))
 
 -- X, Y and Z one after the other, as the code names them: l is the count of listed children, x, y, z what was read
-module _ (n : ℕ) (N N₁ N₂ N₃ : List ℕ) (r : Frame) (l x y z : ℕ) (a b d : Bool) (el : l ≡ childrenListed (r 1)) where
-  pub names-X-fails : x ≡ two r 2 → Named a n N N₁ (listed (ltb 0 l) x) → a ≡ false → Named false n N N₁ (childrenOf r)
+module _ (n : ℕ) (N N₁ N₂ N₃ : List ℕ) (r : Frame) (l x y z : ℕ) (a b d : Bool) (el : l ≡ childrenListed (r (layout .opAt))) where
+  pub names-X-fails : x ≡ two r (layout .XAt) → Named a n N N₁ (listed (ltb 0 l) x) → a ≡ false → Named false n N N₁ (childrenOf r)
   names-X-fails ex h e = rw (children-apart r, ← el, ← ex) (named-fails n N N₁ N₁ _ _ a h e)
 
-  pub names-Y-fails : x ≡ two r 2 → y ≡ two r 4 → Named a n N N₁ (listed (ltb 0 l) x) → a ≡ true → Named b n N₁ N₂ (listed (ltb 1 l) y) → b ≡ false
+  pub names-Y-fails : x ≡ two r (layout .XAt) → y ≡ two r (layout .YAt) → Named a n N N₁ (listed (ltb 0 l) x) → a ≡ true → Named b n N₁ N₂ (listed (ltb 1 l) y) → b ≡ false
       → Named false n N N₂ (childrenOf r)
   names-Y-fails ex ey h e g f =
       rw (children-apart r, ← el, ← ex, ← ey) (named-then n N N₁ N₂ _ _ a false h e (named-fails n N₁ N₂ N₂ _ _ b g f))
 
-  pub names-all : x ≡ two r 2 → y ≡ two r 4 → z ≡ two r 6 → Named a n N N₁ (listed (ltb 0 l) x) → a ≡ true
+  pub names-all : x ≡ two r (layout .XAt) → y ≡ two r (layout .YAt) → z ≡ two r (layout .ZAt) → Named a n N N₁ (listed (ltb 0 l) x) → a ≡ true
       → Named b n N₁ N₂ (listed (ltb 1 l) y) → b ≡ true → Named d n N₂ N₃ (listed (ltb 2 l) z) → Named d n N N₃ (childrenOf r)
   names-all ex ey ez h e g f k =
       rw (children-apart r, ← el, ← ex, ← ey, ← ez) (named-then n N N₁ N₃ _ _ a d h e (named-then n N₁ N₂ N₃ _ _ b d g f k))
@@ -171,7 +172,7 @@ module _ (f : Frames) (N N₁ : List ℕ) (i m n : ℕ) (a b : Bool) where
   unfolding linkedBy
   node-fails h e = record { is = sym (rw (sym (h .is) ∙ e)); marks = λ p. cc }
 
-  pub node-then : Named a n N N₁ (childrenOf (f i)) → a ≡ true → b ≡ namesLinked f (methodFrame f m 1) (f i) → Linked b f N N₁ Node i m n
+  pub node-then : Named a n N N₁ (childrenOf (f i)) → a ≡ true → b ≡ namesLinked f (methodFrame f m (layout .kAt)) (f i) → Linked b f N N₁ Node i m n
   unfolding linkedBy markedBy
   node-then h e g = record { is = g ∙ sym (rw (sym (h .is) ∙ e)); marks = λ p. h .marks e }
 

@@ -16,11 +16,11 @@ use Rattle.frames.specs.Frames.{Frame}
 use Rattle.frames.specs.Ranges.{gradesListed, gradeInRange, childrenListed, namesListed, listedOrZero, usesField, usesMethod}
 
 -- a grade within the 16: the frame's count of listed ones may be cut at 16
-pub grade-listed : (r : Frame) (h listed : ℕ) → h < layout .grades → listed ≡ min (gradesListed r) (layout .grades) → h < listed → gradeInRange r h ≡ leb (r (5 + h)) 4
+pub grade-listed : (r : Frame) (h listed : ℕ) → h < layout .grades → listed ≡ min (gradesListed r) (layout .grades) → h < listed → gradeInRange r h ≡ leb (r (layout .gradesAt + h)) (layout .mostGrade)
 unfolding gradeInRange
 grade-listed r h listed s e l = simp (lt-ltb h (gradesListed r) (omega arith))
 
-pub grade-unlisted : (r : Frame) (h listed : ℕ) → h < layout .grades → listed ≡ min (gradesListed r) (layout .grades) → listed ≤ h → gradeInRange r h ≡ eqb (r (5 + h)) 0
+pub grade-unlisted : (r : Frame) (h listed : ℕ) → h < layout .grades → listed ≡ min (gradesListed r) (layout .grades) → listed ≤ h → gradeInRange r h ≡ eqb (r (layout .gradesAt + h)) 0
 unfolding gradeInRange
 grade-unlisted r h listed s e l = simp (le-ltb h (gradesListed r) (omega arith))
 
@@ -31,7 +31,7 @@ children-past op h = List·getD-eq-default (0 ∷ 1 ∷ 2 ∷ 2 ∷ 3 ∷ 2 ∷ 
 
 pub names-past : (op : ℕ) → 10 ≤ op → namesListed op ≡ 0
 unfolding namesListed
-names-past op h = List·getD-eq-default (0 ∷ 1 ∷ 1 ∷ 0 ∷ 0 ∷ 0 ∷ 1 ∷ 0 ∷ 4 ∷ 0 ∷ []) 0 h
+names-past op h = List·getD-eq-default (0 ∷ 1 ∷ 1 ∷ 0 ∷ 0 ∷ 0 ∷ 1 ∷ 0 ∷ layout .names ∷ 0 ∷ []) 0 h
 
 -- a conjunction, part by part
 pub fails-first : (a b : Bool) → a ≡ false → (a && b) ≡ false

@@ -10,6 +10,7 @@ use native.Mathlib.Nat.{le-refl}
 use lib.Dec.{leb}
 use lib.ListN.{getD}
 use borrow.Author.Tests.{le-leb, lt-leb}
+use Rattle.frames.specs.Layout.{layout}
 use Rattle.lines.specs.Lines.{bytes}
 use Rattle.frames.specs.Frames.{Frame, Frames, framesOf, due, methodsIn, methodFrame, firstMethod, firstNode}
 use Rattle.frames.specs.Links.{linked, methodLinked, nodeLinked, nodeLinkedAt, childrenOf, naming, namedBy, fresh, namesLinked, nodesBefore, ownerUpTo, owner, numberIn}
@@ -71,16 +72,16 @@ module _ (f g : Frames) (i : ℕ) (same : (j : ℕ) → j ≤ i → g j ≡ f j)
       let eb : nodesBefore g (owner g a) ≡ nodesBefore f o = ap (nodesBefore g) eo ∙ agree-before f g i same o (omega arith) in
       let en : numberIn g a ≡ n = ap (λ (b : ℕ). a - b) eb in
       let er : g (firstNode g + a) ≡ r = ap (λ (b : ℕ). g (b + a)) agree-first ∙ same (firstNode f + a) (omega arith) in
-      let ek : methodFrame g (owner g a) 1 ≡ methodFrame f o 1 =
-      ap (λ (m : ℕ). methodFrame g m 1) eo ∙ ap (λ (q : Frame). q 1) (agree-method f g i same o (omega arith)) in
+      let ek : methodFrame g (owner g a) (layout .kAt) ≡ methodFrame f o (layout .kAt) =
+      ap (λ (m : ℕ). methodFrame g m (layout .kAt)) eo ∙ ap (λ (q : Frame). q (layout .kAt)) (agree-method f g i same o (omega arith)) in
       let ex : namedBy g (nodesBefore g (owner g a)) (numberIn g a) ≡ namedBy f (nodesBefore f o) n =
       ap (λ (b : ℕ). namedBy g b (numberIn g a)) eb
       ∙ (ap (namedBy g (nodesBefore f o)) en ∙ agree-named (nodesBefore f o) n (omega arith)) in
-      ap (λ (q : Frame). fresh (numberIn g a) (namedBy g (nodesBefore g (owner g a)) (numberIn g a)) (childrenOf q) && namesLinked g (methodFrame g (owner g a) 1) q) er
+      ap (λ (q : Frame). fresh (numberIn g a) (namedBy g (nodesBefore g (owner g a)) (numberIn g a)) (childrenOf q) && namesLinked g (methodFrame g (owner g a) (layout .kAt)) q) er
       ∙ (ap (λ (k : ℕ). fresh (numberIn g a) (namedBy g (nodesBefore g (owner g a)) (numberIn g a)) (childrenOf r) && namesLinked g k r) ek
-      ∙ (ap (λ (xs : List ℕ). fresh (numberIn g a) xs (childrenOf r) && namesLinked g (methodFrame f o 1) r) ex
-      ∙ (ap (λ (m : ℕ). fresh m (namedBy f (nodesBefore f o) n) (childrenOf r) && namesLinked g (methodFrame f o 1) r) en
-      ∙ ap (λ (b : Bool). fresh n (namedBy f (nodesBefore f o) n) (childrenOf r) && b) (agree-names f g i same (omega arith) (methodFrame f o 1) r))))
+      ∙ (ap (λ (xs : List ℕ). fresh (numberIn g a) xs (childrenOf r) && namesLinked g (methodFrame f o (layout .kAt)) r) ex
+      ∙ (ap (λ (m : ℕ). fresh m (namedBy f (nodesBefore f o) n) (childrenOf r) && namesLinked g (methodFrame f o (layout .kAt)) r) en
+      ∙ ap (λ (b : Bool). fresh n (namedBy f (nodesBefore f o) n) (childrenOf r) && b) (agree-names f g i same (omega arith) (methodFrame f o (layout .kAt)) r))))
 
   agree-linked : (d : Due) → due f i ≡ d → linked g d i ≡ linked f d i
   unfolding linked

@@ -56,39 +56,39 @@ pub record HeaderFits (f : Frames) : Type 0 where
 header-fits : (f : Frames) → headerInRange (f 0) ≡ true → HeaderFits f
 unfolding headerInRange
 header-fits f e =
-    let a = and-left (leb 1 (f 0 1) && leb (f 0 1) (layout .mostMethods)) (leb (f 0 2) (layout .mostFields) && (leb 1 (two (f 0) 3) && leb (two (f 0) 3) (layout .mostNodes))) e in
-    let b = and-right (leb 1 (f 0 1) && leb (f 0 1) (layout .mostMethods)) (leb (f 0 2) (layout .mostFields) && (leb 1 (two (f 0) 3) && leb (two (f 0) 3) (layout .mostNodes))) e in
-    let d = and-right (leb (f 0 2) (layout .mostFields)) (leb 1 (two (f 0) 3) && leb (two (f 0) 3) (layout .mostNodes)) b in
+    let a = and-left (leb 1 (f 0 (layout .methodsAt)) && leb (f 0 (layout .methodsAt)) (layout .mostMethods)) (leb (f 0 (layout .fieldsAt)) (layout .mostFields) && (leb 1 (two (f 0) (layout .nodesAt)) && leb (two (f 0) (layout .nodesAt)) (layout .mostNodes))) e in
+    let b = and-right (leb 1 (f 0 (layout .methodsAt)) && leb (f 0 (layout .methodsAt)) (layout .mostMethods)) (leb (f 0 (layout .fieldsAt)) (layout .mostFields) && (leb 1 (two (f 0) (layout .nodesAt)) && leb (two (f 0) (layout .nodesAt)) (layout .mostNodes))) e in
+    let d = and-right (leb (f 0 (layout .fieldsAt)) (layout .mostFields)) (leb 1 (two (f 0) (layout .nodesAt)) && leb (two (f 0) (layout .nodesAt)) (layout .mostNodes)) b in
     record {
-      methodsLow = leb-true 1 (f 0 1) (and-left (leb 1 (f 0 1)) (leb (f 0 1) (layout .mostMethods)) a);
-      methodsHigh = leb-true (f 0 1) (layout .mostMethods) (and-right (leb 1 (f 0 1)) (leb (f 0 1) (layout .mostMethods)) a);
-      fieldsHigh = leb-true (f 0 2) (layout .mostFields) (and-left (leb (f 0 2) (layout .mostFields)) (leb 1 (two (f 0) 3) && leb (two (f 0) 3) (layout .mostNodes)) b);
-      nodesLow = leb-true 1 (two (f 0) 3) (and-left (leb 1 (two (f 0) 3)) (leb (two (f 0) 3) (layout .mostNodes)) d);
-      nodesHigh = leb-true (two (f 0) 3) (layout .mostNodes) (and-right (leb 1 (two (f 0) 3)) (leb (two (f 0) 3) (layout .mostNodes)) d);
+      methodsLow = leb-true 1 (f 0 (layout .methodsAt)) (and-left (leb 1 (f 0 (layout .methodsAt))) (leb (f 0 (layout .methodsAt)) (layout .mostMethods)) a);
+      methodsHigh = leb-true (f 0 (layout .methodsAt)) (layout .mostMethods) (and-right (leb 1 (f 0 (layout .methodsAt))) (leb (f 0 (layout .methodsAt)) (layout .mostMethods)) a);
+      fieldsHigh = leb-true (f 0 (layout .fieldsAt)) (layout .mostFields) (and-left (leb (f 0 (layout .fieldsAt)) (layout .mostFields)) (leb 1 (two (f 0) (layout .nodesAt)) && leb (two (f 0) (layout .nodesAt)) (layout .mostNodes)) b);
+      nodesLow = leb-true 1 (two (f 0) (layout .nodesAt)) (and-left (leb 1 (two (f 0) (layout .nodesAt))) (leb (two (f 0) (layout .nodesAt)) (layout .mostNodes)) d);
+      nodesHigh = leb-true (two (f 0) (layout .nodesAt)) (layout .mostNodes) (and-right (leb 1 (two (f 0) (layout .nodesAt))) (leb (two (f 0) (layout .nodesAt)) (layout .mostNodes)) d);
     }
 
 -- a method's numbers
 pub record MethodFits (main : Bool) (r : Frame) : Type 0 where
-  pub names : r 1 ≤ cond main 0 4
-  pub countLow : 1 ≤ two r 2
-  pub countHigh : two r 2 ≤ layout .mostNodes
-  pub declared : r 4 ≤ 1
+  pub names : r (layout .kAt) ≤ cond main 0 (layout .mostNames)
+  pub countLow : 1 ≤ two r (layout .countAt)
+  pub countHigh : two r (layout .countAt) ≤ layout .mostNodes
+  pub declared : r (layout .declaredAt) ≤ 1
   pub graded : every (layout .grades) (gradeInRange r) ≡ true
 
 pub method-fits : (main : Bool) (r : Frame) → methodInRange main r ≡ true → MethodFits main r
 unfolding methodInRange
 method-fits main r e =
-    let k = leb (r 1) (cond main 0 4) in
-    let n = leb 1 (two r 2) && leb (two r 2) (layout .mostNodes) in
+    let k = leb (r (layout .kAt)) (cond main 0 (layout .mostNames)) in
+    let n = leb 1 (two r (layout .countAt)) && leb (two r (layout .countAt)) (layout .mostNodes) in
     let g = every (layout .grades) (gradeInRange r) in
-    let b = and-right k (n && (leb (r 4) 1 && g)) e in
-    let h = and-right n (leb (r 4) 1 && g) b in
+    let b = and-right k (n && (leb (r (layout .declaredAt)) 1 && g)) e in
+    let h = and-right n (leb (r (layout .declaredAt)) 1 && g) b in
     record {
-      names = leb-true (r 1) (cond main 0 4) (and-left k (n && (leb (r 4) 1 && g)) e);
-      countLow = leb-true 1 (two r 2) (and-left (leb 1 (two r 2)) (leb (two r 2) (layout .mostNodes)) (and-left n (leb (r 4) 1 && g) b));
-      countHigh = leb-true (two r 2) (layout .mostNodes) (and-right (leb 1 (two r 2)) (leb (two r 2) (layout .mostNodes)) (and-left n (leb (r 4) 1 && g) b));
-      declared = leb-true (r 4) 1 (and-left (leb (r 4) 1) g h);
-      graded = and-right (leb (r 4) 1) g h;
+      names = leb-true (r (layout .kAt)) (cond main 0 (layout .mostNames)) (and-left k (n && (leb (r (layout .declaredAt)) 1 && g)) e);
+      countLow = leb-true 1 (two r (layout .countAt)) (and-left (leb 1 (two r (layout .countAt))) (leb (two r (layout .countAt)) (layout .mostNodes)) (and-left n (leb (r (layout .declaredAt)) 1 && g) b));
+      countHigh = leb-true (two r (layout .countAt)) (layout .mostNodes) (and-right (leb 1 (two r (layout .countAt))) (leb (two r (layout .countAt)) (layout .mostNodes)) (and-left n (leb (r (layout .declaredAt)) 1 && g) b));
+      declared = leb-true (r (layout .declaredAt)) 1 (and-left (leb (r (layout .declaredAt)) 1) g h);
+      graded = and-right (leb (r (layout .declaredAt)) 1) g h;
     }
 
 -- one sound line more

@@ -59,15 +59,15 @@ nodes-before-past t (suc n) =
     (add-zero _ ∙ nodes-before-past t n))
 
 -- an entry of a method's table, which has one for each held set
-pub table-entry : (f : Frames) (m h : ℕ) → h < min (2 ^ methodFrame f m 1) (layout .grades) → getD (methodOf f m .table) h 0 ≡ methodFrame f m (5 + h)
+pub table-entry : (f : Frames) (m h : ℕ) → h < min (2 ^ methodFrame f m (layout .kAt)) (layout .grades) → getD (methodOf f m .table) h 0 ≡ methodFrame f m (5 + h)
 unfolding gradeOf
 table-entry f m h l = getD-tabulate _ _ h 0 (omega arith) ∙ simp (lt-ltb h (layout .grades) (omega arith))
 
-pub table-past : (f : Frames) (m h : ℕ) → min (2 ^ methodFrame f m 1) (layout .grades) ≤ h → getD (methodOf f m .table) h 0 ≡ 0
+pub table-past : (f : Frames) (m h : ℕ) → min (2 ^ methodFrame f m (layout .kAt)) (layout .grades) ≤ h → getD (methodOf f m .table) h 0 ≡ 0
 unfolding gradeOf
-table-past f m h l = go (lt-or-le h (2 ^ methodFrame f m 1))
+table-past f m h l = go (lt-or-le h (2 ^ methodFrame f m (layout .kAt)))
   where
-    go : (h < 2 ^ methodFrame f m 1) ⊎ (2 ^ methodFrame f m 1 ≤ h) → getD (methodOf f m .table) h 0 ≡ 0
+    go : (h < 2 ^ methodFrame f m (layout .kAt)) ⊎ (2 ^ methodFrame f m (layout .kAt) ≤ h) → getD (methodOf f m .table) h 0 ≡ 0
     go = ⊎-elim
-        (λ (i : h < 2 ^ methodFrame f m 1). getD-tabulate _ _ h 0 i ∙ simp (le-ltb h (layout .grades) (omega arith)))
-        (λ (o : 2 ^ methodFrame f m 1 ≤ h). getD-past-tabulate _ _ h 0 o)
+        (λ (i : h < 2 ^ methodFrame f m (layout .kAt)). getD-tabulate _ _ h 0 i ∙ simp (le-ltb h (layout .grades) (omega arith)))
+        (λ (o : 2 ^ methodFrame f m (layout .kAt) ≤ h). getD-past-tabulate _ _ h 0 o)

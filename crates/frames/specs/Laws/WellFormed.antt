@@ -50,22 +50,22 @@ or-right false b e h = e
 
 -- ---- a method's grades
 
-grade-small : (r : Frame) (h : ℕ) → gradeInRange r h ≡ true → r (5 + h) ≤ 4
+grade-small : (r : Frame) (h : ℕ) → gradeInRange r h ≡ true → r (layout .gradesAt + h) ≤ layout .mostGrade
 unfolding gradeInRange
 grade-small r h e = go (ltb h (gradesListed r)) e
   where
-    go : (b : Bool) → cond b (leb (r (5 + h)) 4) (eqb (r (5 + h)) 0) ≡ true → r (5 + h) ≤ 4
-    go true p = leb-true (r (5 + h)) 4 p
-    go false p = omega (arith, eqb-true (r (5 + h)) 0 p)
+    go : (b : Bool) → cond b (leb (r (layout .gradesAt + h)) (layout .mostGrade)) (eqb (r (layout .gradesAt + h)) 0) ≡ true → r (layout .gradesAt + h) ≤ layout .mostGrade
+    go true p = leb-true (r (layout .gradesAt + h)) (layout .mostGrade) p
+    go false p = omega (arith, eqb-true (r (layout .gradesAt + h)) 0 p)
 
-grade-none : (r : Frame) (h : ℕ) → gradeInRange r h ≡ true → eqb (r 4) 1 ≡ false → r (5 + h) ≡ 0
+grade-none : (r : Frame) (h : ℕ) → gradeInRange r h ≡ true → eqb (r (layout .declaredAt)) 1 ≡ false → r (layout .gradesAt + h) ≡ 0
 unfolding gradeInRange gradesListed
-grade-none r h e d = eqb-true (r (5 + h)) 0 (go e)
+grade-none r h e d = eqb-true (r (layout .gradesAt + h)) 0 (go e)
   where
-    go : cond (ltb h (cond (eqb (r 4) 1) (2 ^ r 1) 0)) (leb (r (5 + h)) 4) (eqb (r (5 + h)) 0) ≡ true → eqb (r (5 + h)) 0 ≡ true
+    go : cond (ltb h (cond (eqb (r (layout .declaredAt)) 1) (2 ^ r (layout .kAt)) 0)) (leb (r (layout .gradesAt + h)) (layout .mostGrade)) (eqb (r (layout .gradesAt + h)) 0) ≡ true → eqb (r (layout .gradesAt + h)) 0 ≡ true
     go p = rw (d, le-ltb h 0 zero-le) at p
 
-table-small : (r : Frame) → every (layout .grades) (gradeInRange r) ≡ true → (n h : ℕ) → getD (tabulate n (gradeOf r)) h 0 ≤ 4
+table-small : (r : Frame) → every (layout .grades) (gradeInRange r) ≡ true → (n h : ℕ) → getD (tabulate n (gradeOf r)) h 0 ≤ layout .mostGrade
 unfolding gradeOf
 table-small r e n h =
     ⊎-elim
@@ -77,7 +77,7 @@ table-small r e n h =
     (λ (g : n ≤ h). rw (getD-past-tabulate n (gradeOf r) h 0 g) zero-le)
     (lt-or-le h n)
 
-table-none : (r : Frame) → every (layout .grades) (gradeInRange r) ≡ true → eqb (r 4) 1 ≡ false → (n h : ℕ) → getD (tabulate n (gradeOf r)) h 0 ≡ 0
+table-none : (r : Frame) → every (layout .grades) (gradeInRange r) ≡ true → eqb (r (layout .declaredAt)) 1 ≡ false → (n h : ℕ) → getD (tabulate n (gradeOf r)) h 0 ≡ 0
 unfolding gradeOf
 table-none r e d n h =
     ⊎-elim
@@ -97,15 +97,15 @@ method-well f m h =
       someNodes = rw (length-tabulate (nodeCount f m) (λ n. nodeOf (f (firstFrame f m + n)))) (h .countLow);
       fewNodes = rw (length-tabulate (nodeCount f m) (λ n. nodeOf (f (firstFrame f m + n)))) (h .countHigh);
       entries = length-tabulate _ _;
-      grades = λ g. table-small (methodFrame f m) (h .graded) (2 ^ methodFrame f m 1) g;
-      undeclared = λ d g. table-none (methodFrame f m) (h .graded) d (2 ^ methodFrame f m 1) g;
+      grades = λ g. table-small (methodFrame f m) (h .graded) (2 ^ methodFrame f m (layout .kAt)) g;
+      undeclared = λ d g. table-none (methodFrame f m) (h .graded) d (2 ^ methodFrame f m (layout .kAt)) g;
     }
   where
-    few : (b : Bool) → methodFrame f m 1 ≤ cond b 0 4 → methodFrame f m 1 ≤ 4
+    few : (b : Bool) → methodFrame f m (layout .kAt) ≤ cond b 0 (layout .mostNames) → methodFrame f m (layout .kAt) ≤ layout .mostNames
     few true p = omega arith
     few false p = p
 
-    none : (b : Bool) → b ≡ true → methodFrame f m 1 ≤ cond b 0 4 → methodFrame f m 1 ≡ 0
+    none : (b : Bool) → b ≡ true → methodFrame f m (layout .kAt) ≤ cond b 0 (layout .mostNames) → methodFrame f m (layout .kAt) ≡ 0
     none true e p = omega arith
     none false e p = cc
 
@@ -113,19 +113,19 @@ field-well : (r : Frame) → fieldInRange r ≡ true → FieldFits (fieldOf r)
 unfolding fieldInRange
 field-well r e =
     record {
-      width = leb-true (r 1) 1 (and-left (leb (r 1) 1) (leb (r 2) 3) e);
-      guard = leb-true (r 2) 3 (and-right (leb (r 1) 1) (leb (r 2) 3) e);
+      width = leb-true (r (layout .widthAt)) (layout .mostWidth) (and-left (leb (r (layout .widthAt)) (layout .mostWidth)) (leb (r (layout .guardAt)) (layout .mostGuard)) e);
+      guard = leb-true (r (layout .guardAt)) (layout .mostGuard) (and-right (leb (r (layout .widthAt)) (layout .mostWidth)) (leb (r (layout .guardAt)) (layout .mostGuard)) e);
     }
 
 -- ---- a node's own ranges
 
 record NodeIn (r : Frame) : Type 0 where
-  op : r 1 ≤ 9
-  noX : childrenListed (r 1) ≤ 0 → two r 2 ≡ 0
-  noY : childrenListed (r 1) ≤ 1 → two r 4 ≡ 0
-  noZ : childrenListed (r 1) ≤ 2 → two r 6 ≡ 0
-  noU : usesField (r 1) ≡ false → usesMethod (r 1) ≡ false → r 8 ≡ 0
-  noName : (j : ℕ) → j < 4 → namesListed (r 1) ≤ j → r (9 + j) ≡ 0
+  op : r (layout .opAt) ≤ 9
+  noX : childrenListed (r (layout .opAt)) ≤ 0 → two r (layout .XAt) ≡ 0
+  noY : childrenListed (r (layout .opAt)) ≤ 1 → two r (layout .YAt) ≡ 0
+  noZ : childrenListed (r (layout .opAt)) ≤ 2 → two r (layout .ZAt) ≡ 0
+  noU : usesField (r (layout .opAt)) ≡ false → usesMethod (r (layout .opAt)) ≡ false → r (layout .UAt) ≡ 0
+  noName : (j : ℕ) → j < layout .names → namesListed (r (layout .opAt)) ≤ j → r (layout .namesAt + j) ≡ 0
 
 zero-of : (a : ℕ) (n x : ℕ) → listedOrZero (ltb a n) x ≡ true → n ≤ a → x ≡ 0
 zero-of a n x e h = eqb-true x 0 (or-right (ltb a n) (eqb x 0) e (le-ltb a n h))
@@ -133,24 +133,24 @@ zero-of a n x e h = eqb-true x 0 (or-right (ltb a n) (eqb x 0) e (le-ltb a n h))
 node-in : (r : Frame) → nodeInRange r ≡ true → NodeIn r
 unfolding nodeInRange nameInRange
 node-in r e =
-    let n = childrenListed (r 1) in
-    let a = leb (r 1) 9 in
-    let x = listedOrZero (ltb 0 n) (two r 2) in
-    let y = listedOrZero (ltb 1 n) (two r 4) in
-    let z = listedOrZero (ltb 2 n) (two r 6) in
-    let u = listedOrZero (usesField (r 1) || usesMethod (r 1)) (r 8) in
-    let t = every 4 (nameInRange r) in
+    let n = childrenListed (r (layout .opAt)) in
+    let a = leb (r (layout .opAt)) 9 in
+    let x = listedOrZero (ltb 0 n) (two r (layout .XAt)) in
+    let y = listedOrZero (ltb 1 n) (two r (layout .YAt)) in
+    let z = listedOrZero (ltb 2 n) (two r (layout .ZAt)) in
+    let u = listedOrZero (usesField (r (layout .opAt)) || usesMethod (r (layout .opAt))) (r (layout .UAt)) in
+    let t = every (layout .names) (nameInRange r) in
     let e₁ = and-right a (x && (y && (z && (u && t)))) e in
     let e₂ = and-right x (y && (z && (u && t))) e₁ in
     let e₃ = and-right y (z && (u && t)) e₂ in
     let e₄ = and-right z (u && t) e₃ in
     record {
-      op = leb-true (r 1) 9 (and-left a (x && (y && (z && (u && t)))) e);
-      noX = zero-of 0 n (two r 2) (and-left x (y && (z && (u && t))) e₁);
-      noY = zero-of 1 n (two r 4) (and-left y (z && (u && t)) e₂);
-      noZ = zero-of 2 n (two r 6) (and-left z (u && t) e₃);
-      noU = λ p q. eqb-true (r 8) 0 (or-right (usesField (r 1) || usesMethod (r 1)) (eqb (r 8) 0) (and-left u t e₄) (neither (usesField (r 1)) (usesMethod (r 1)) p q));
-      noName = λ j h g. zero-of j (namesListed (r 1)) (r (9 + j)) (every-at 4 (nameInRange r) (and-right u t e₄) j h) g;
+      op = leb-true (r (layout .opAt)) 9 (and-left a (x && (y && (z && (u && t)))) e);
+      noX = zero-of 0 n (two r (layout .XAt)) (and-left x (y && (z && (u && t))) e₁);
+      noY = zero-of 1 n (two r (layout .YAt)) (and-left y (z && (u && t)) e₂);
+      noZ = zero-of 2 n (two r (layout .ZAt)) (and-left z (u && t) e₃);
+      noU = λ p q. eqb-true (r (layout .UAt)) 0 (or-right (usesField (r (layout .opAt)) || usesMethod (r (layout .opAt))) (eqb (r (layout .UAt)) 0) (and-left u t e₄) (neither (usesField (r (layout .opAt))) (usesMethod (r (layout .opAt))) p q));
+      noName = λ j h g. zero-of j (namesListed (r (layout .opAt))) (r (layout .namesAt + j)) (every-at (layout .names) (nameInRange r) (and-right u t e₄) j h) g;
     }
   where
     neither : (p q : Bool) → p ≡ false → q ≡ false → (p || q) ≡ false
@@ -162,44 +162,44 @@ name-of : (k t : ℕ) → nameOrNone k t ≡ true → Name k t
 name-of k t e = ⊎-elim (λ (p : ltb t k ≡ true). inl (ltb-true t k p)) (λ (q : eqb t 255 ≡ true). inr (eqb-true t 255 q)) (or-cases (ltb t k) (eqb t 255) e)
 
 record NamesIn (f : Frames) (k : ℕ) (r : Frame) : Type 0 where
-  field : usesField (r 1) ≡ true → r 8 < fieldsIn f
-  method : usesMethod (r 1) ≡ true → r 8 < methodsIn f
-  guarded : usesField (r 1) ≡ true → guardUses (fieldFrame f (r 8) 2) ≡ true → Name k (r 9)
-  unguarded : usesField (r 1) ≡ true → guardUses (fieldFrame f (r 8) 2) ≡ false → r 9 ≡ 0
-  synchronised : r 1 ≡ 6 → r 9 < k
-  call : r 1 ≡ 8 → (j : ℕ) → j < 4 → j < methodFrame f (r 8) 1 → Name k (r (9 + j))
-  spare : r 1 ≡ 8 → (j : ℕ) → j < 4 → methodFrame f (r 8) 1 ≤ j → r (9 + j) ≡ 0
-  fork : r 1 ≡ 9 → 1 ≤ methodFrame f (r 8) 1
+  field : usesField (r (layout .opAt)) ≡ true → r (layout .UAt) < fieldsIn f
+  method : usesMethod (r (layout .opAt)) ≡ true → r (layout .UAt) < methodsIn f
+  guarded : usesField (r (layout .opAt)) ≡ true → guardUses (fieldFrame f (r (layout .UAt)) (layout .guardAt)) ≡ true → Name k (r (layout .namesAt))
+  unguarded : usesField (r (layout .opAt)) ≡ true → guardUses (fieldFrame f (r (layout .UAt)) (layout .guardAt)) ≡ false → r (layout .namesAt) ≡ 0
+  synchronised : r (layout .opAt) ≡ 6 → r (layout .namesAt) < k
+  call : r (layout .opAt) ≡ 8 → (j : ℕ) → j < layout .names → j < methodFrame f (r (layout .UAt)) (layout .kAt) → Name k (r (layout .namesAt + j))
+  spare : r (layout .opAt) ≡ 8 → (j : ℕ) → j < layout .names → methodFrame f (r (layout .UAt)) (layout .kAt) ≤ j → r (layout .namesAt + j) ≡ 0
+  fork : r (layout .opAt) ≡ 9 → 1 ≤ methodFrame f (r (layout .UAt)) (layout .kAt)
 
 module _ (f : Frames) (k : ℕ) (r : Frame) (e : namesLinked f k r ≡ true) where
-  access-in : usesField (r 1) ≡ true → accessLinked f k r ≡ true
+  access-in : usesField (r (layout .opAt)) ≡ true → accessLinked f k r ≡ true
   access-in u = ⊎-elim
-      (λ (p : eqb (r 1) 1 ≡ true). sym (names-read f k r (eqb-true (r 1) 1 p)) ∙ e)
-      (λ (q : eqb (r 1) 2 ≡ true). sym (names-write f k r (eqb-true (r 1) 2 q)) ∙ e)
-      (or-cases (eqb (r 1) 1) (eqb (r 1) 2) u)
+      (λ (p : eqb (r (layout .opAt)) 1 ≡ true). sym (names-read f k r (eqb-true (r (layout .opAt)) 1 p)) ∙ e)
+      (λ (q : eqb (r (layout .opAt)) 2 ≡ true). sym (names-write f k r (eqb-true (r (layout .opAt)) 2 q)) ∙ e)
+      (or-cases (eqb (r (layout .opAt)) 1) (eqb (r (layout .opAt)) 2) u)
 
   names-in : NamesIn f k r
   unfolding accessLinked callLinked callNameLinked forkLinked
   names-in =
-      let g = guardUses (fieldFrame f (r 8) 2) in
-      let rest = cond g (nameOrNone k (r 9)) (eqb (r 9) 0) in
-      let calls = every 4 (callNameLinked (methodFrame f (r 8) 1) k r) in
+      let g = guardUses (fieldFrame f (r (layout .UAt)) (layout .guardAt)) in
+      let rest = cond g (nameOrNone k (r (layout .namesAt))) (eqb (r (layout .namesAt)) 0) in
+      let calls = every (layout .names) (callNameLinked (methodFrame f (r (layout .UAt)) (layout .kAt)) k r) in
       record {
-        field = λ u. ltb-true (r 8) (fieldsIn f) (and-left (ltb (r 8) (fieldsIn f)) rest (access-in u));
+        field = λ u. ltb-true (r (layout .UAt)) (fieldsIn f) (and-left (ltb (r (layout .UAt)) (fieldsIn f)) rest (access-in u));
         method = λ u. ⊎-elim
-            (λ (p : eqb (r 1) 8 ≡ true).
-            ltb-true (r 8) (methodsIn f) (and-left (ltb (r 8) (methodsIn f)) calls (sym (names-call f k r (eqb-true (r 1) 8 p)) ∙ e)))
-            (λ (q : eqb (r 1) 9 ≡ true).
-            ltb-true (r 8) (methodsIn f) (and-left (ltb (r 8) (methodsIn f)) (ltb 0 (methodFrame f (r 8) 1)) (sym (names-fork f k r (eqb-true (r 1) 9 q)) ∙ e)))
-            (or-cases (eqb (r 1) 8) (eqb (r 1) 9) u);
-        guarded = λ u h. name-of k (r 9) (used g (nameOrNone k (r 9)) (eqb (r 9) 0) h (and-right (ltb (r 8) (fieldsIn f)) rest (access-in u)));
-        unguarded = λ u h. eqb-true (r 9) 0 (unused g (nameOrNone k (r 9)) (eqb (r 9) 0) h (and-right (ltb (r 8) (fieldsIn f)) rest (access-in u)));
-        synchronised = λ q. ltb-true (r 9) k (sym (names-synchronised f k r q) ∙ e);
-        call = λ q j h l. name-of k (r (9 + j)) (used (ltb j (methodFrame f (r 8) 1)) (nameOrNone k (r (9 + j))) (eqb (r (9 + j)) 0) (lt-ltb j (methodFrame f (r 8) 1) l)
-            (every-at 4 (callNameLinked (methodFrame f (r 8) 1) k r) (and-right (ltb (r 8) (methodsIn f)) calls (sym (names-call f k r q) ∙ e)) j h));
-        spare = λ q j h l. eqb-true (r (9 + j)) 0 (unused (ltb j (methodFrame f (r 8) 1)) (nameOrNone k (r (9 + j))) (eqb (r (9 + j)) 0) (le-ltb j (methodFrame f (r 8) 1) l)
-            (every-at 4 (callNameLinked (methodFrame f (r 8) 1) k r) (and-right (ltb (r 8) (methodsIn f)) calls (sym (names-call f k r q) ∙ e)) j h));
-        fork = λ q. ltb-true 0 (methodFrame f (r 8) 1) (and-right (ltb (r 8) (methodsIn f)) (ltb 0 (methodFrame f (r 8) 1)) (sym (names-fork f k r q) ∙ e));
+            (λ (p : eqb (r (layout .opAt)) 8 ≡ true).
+            ltb-true (r (layout .UAt)) (methodsIn f) (and-left (ltb (r (layout .UAt)) (methodsIn f)) calls (sym (names-call f k r (eqb-true (r (layout .opAt)) 8 p)) ∙ e)))
+            (λ (q : eqb (r (layout .opAt)) 9 ≡ true).
+            ltb-true (r (layout .UAt)) (methodsIn f) (and-left (ltb (r (layout .UAt)) (methodsIn f)) (ltb 0 (methodFrame f (r (layout .UAt)) (layout .kAt))) (sym (names-fork f k r (eqb-true (r (layout .opAt)) 9 q)) ∙ e)))
+            (or-cases (eqb (r (layout .opAt)) 8) (eqb (r (layout .opAt)) 9) u);
+        guarded = λ u h. name-of k (r (layout .namesAt)) (used g (nameOrNone k (r (layout .namesAt))) (eqb (r (layout .namesAt)) 0) h (and-right (ltb (r (layout .UAt)) (fieldsIn f)) rest (access-in u)));
+        unguarded = λ u h. eqb-true (r (layout .namesAt)) 0 (unused g (nameOrNone k (r (layout .namesAt))) (eqb (r (layout .namesAt)) 0) h (and-right (ltb (r (layout .UAt)) (fieldsIn f)) rest (access-in u)));
+        synchronised = λ q. ltb-true (r (layout .namesAt)) k (sym (names-synchronised f k r q) ∙ e);
+        call = λ q j h l. name-of k (r (layout .namesAt + j)) (used (ltb j (methodFrame f (r (layout .UAt)) (layout .kAt))) (nameOrNone k (r (layout .namesAt + j))) (eqb (r (layout .namesAt + j)) 0) (lt-ltb j (methodFrame f (r (layout .UAt)) (layout .kAt)) l)
+            (every-at (layout .names) (callNameLinked (methodFrame f (r (layout .UAt)) (layout .kAt)) k r) (and-right (ltb (r (layout .UAt)) (methodsIn f)) calls (sym (names-call f k r q) ∙ e)) j h));
+        spare = λ q j h l. eqb-true (r (layout .namesAt + j)) 0 (unused (ltb j (methodFrame f (r (layout .UAt)) (layout .kAt))) (nameOrNone k (r (layout .namesAt + j))) (eqb (r (layout .namesAt + j)) 0) (le-ltb j (methodFrame f (r (layout .UAt)) (layout .kAt)) l)
+            (every-at (layout .names) (callNameLinked (methodFrame f (r (layout .UAt)) (layout .kAt)) k r) (and-right (ltb (r (layout .UAt)) (methodsIn f)) calls (sym (names-call f k r q) ∙ e)) j h));
+        fork = λ q. ltb-true 0 (methodFrame f (r (layout .UAt)) (layout .kAt)) (and-right (ltb (r (layout .UAt)) (methodsIn f)) (ltb 0 (methodFrame f (r (layout .UAt)) (layout .kAt))) (sym (names-fork f k r q) ∙ e));
       }
     where
       used : (g x y : Bool) → g ≡ true → cond g x y ≡ true → x ≡ true
@@ -264,33 +264,33 @@ module _ (f : Frames) where
   node-well k n xs r a b e =
       record {
         op = a .op;
-        names = length-tabulate 4 (λ j. r (9 + j));
+        names = length-tabulate (layout .names) (λ j. r (layout .namesAt + j));
         below = λ c h. fresh-below n xs (childrenOf r) e c (ap (member c) (children-same r) ∙ h);
         field = λ u. omega (arith, b .field u, fields-length f);
         method = λ u. omega (arith, b .method u, methods-length f);
-        guarded = λ u h. rw (name-is f r 0 (omega arith)) (b .guarded u (sym (ap (λ (x : Field). guardUses (x .guard)) (field-is f (r 8) (b .field u))) ∙ h));
-        unguarded = λ u h. name-is f r 0 (omega arith) ∙ b .unguarded u (sym (ap (λ (x : Field). guardUses (x .guard)) (field-is f (r 8) (b .field u))) ∙ h);
+        guarded = λ u h. rw (name-is f r 0 (omega arith)) (b .guarded u (sym (ap (λ (x : Field). guardUses (x .guard)) (field-is f (r (layout .UAt)) (b .field u))) ∙ h));
+        unguarded = λ u h. name-is f r 0 (omega arith) ∙ b .unguarded u (sym (ap (λ (x : Field). guardUses (x .guard)) (field-is f (r (layout .UAt)) (b .field u))) ∙ h);
         synchronised = λ q. rw (name-is f r 0 (omega arith)) (b .synchronised q);
-        call = λ q j h l. rw (name-is f r j h) (b .call q j h (omega (arith, ap (λ (x : Method). x .k) (method-is f (r 8) (b .method (uses-8 q))))));
+        call = λ q j h l. rw (name-is f r j h) (b .call q j h (omega (arith, ap (λ (x : Method). x .k) (method-is f (r (layout .UAt)) (b .method (uses-8 q))))));
         spare = λ q j l. ⊎-elim
-            (λ (h : j < 4). name-is f r j h ∙ b .spare q j h (omega (arith, ap (λ (x : Method). x .k) (method-is f (r 8) (b .method (uses-8 q))))))
-            (λ (g : 4 ≤ j). name-past f r j g)
-            (lt-or-le j 4);
-        fork = λ q. omega (arith, b .fork q, ap (λ (x : Method). x .k) (method-is f (r 8) (b .method (uses-9 q))));
+            (λ (h : j < layout .names). name-is f r j h ∙ b .spare q j h (omega (arith, ap (λ (x : Method). x .k) (method-is f (r (layout .UAt)) (b .method (uses-8 q))))))
+            (λ (g : layout .names ≤ j). name-past f r j g)
+            (lt-or-le j (layout .names));
+        fork = λ q. omega (arith, b .fork q, ap (λ (x : Method). x .k) (method-is f (r (layout .UAt)) (b .method (uses-9 q))));
         noX = a .noX;
         noY = a .noY;
         noZ = a .noZ;
         noU = a .noU;
         noName = λ j l. ⊎-elim
-            (λ (h : j < 4). name-is f r j h ∙ a .noName j h l)
-            (λ (g : 4 ≤ j). name-past f r j g)
-            (lt-or-le j 4);
+            (λ (h : j < layout .names). name-is f r j h ∙ a .noName j h l)
+            (λ (g : layout .names ≤ j). name-past f r j g)
+            (lt-or-le j (layout .names));
       }
     where
-      uses-8 : r 1 ≡ 8 → usesMethod (r 1) ≡ true
+      uses-8 : r (layout .opAt) ≡ 8 → usesMethod (r (layout .opAt)) ≡ true
       uses-8 q = rw q
 
-      uses-9 : r 1 ≡ 9 → usesMethod (r 1) ≡ true
+      uses-9 : r (layout .opAt) ≡ 9 → usesMethod (r (layout .opAt)) ≡ true
       uses-9 q = rw q
 
 -- ---- lines without a fault
@@ -329,7 +329,7 @@ module _ (ls : List (List ℕ)) (ok : Faultless ls) where
         (due-node (framesOf ls) j (λ e. omega arith) (omega arith) (omega arith) early)
 
     -- the node's test, with its own method and number
-    both : nodeLinked (framesOf ls) (methodFrame (framesOf ls) m 1) n (namedBy (framesOf ls) (nodesBefore (framesOf ls) m) n)
+    both : nodeLinked (framesOf ls) (methodFrame (framesOf ls) m (layout .kAt)) n (namedBy (framesOf ls) (nodesBefore (framesOf ls) m) n)
         (framesOf ls (firstNode (framesOf ls) + (nodesBefore (framesOf ls) m + n))) ≡ true
     unfolding linked nodeLinkedAt
     both =
@@ -341,15 +341,15 @@ module _ (ls : List (List ℕ)) (ok : Faultless ls) where
 
     fresh-ok : fresh n (namedBy (framesOf ls) (nodesBefore (framesOf ls) m) n) (childrenOf (framesOf ls (firstNode (framesOf ls) + (nodesBefore (framesOf ls) m + n)))) ≡ true
     unfolding nodeLinked
-    fresh-ok = and-left _ (namesLinked (framesOf ls) (methodFrame (framesOf ls) m 1) (framesOf ls (firstNode (framesOf ls) + (nodesBefore (framesOf ls) m + n)))) both
+    fresh-ok = and-left _ (namesLinked (framesOf ls) (methodFrame (framesOf ls) m (layout .kAt)) (framesOf ls (firstNode (framesOf ls) + (nodesBefore (framesOf ls) m + n)))) both
 
-    node-ok : NodeFits (programOf (framesOf ls)) (methodFrame (framesOf ls) m 1) n (nodeOf (framesOf ls (firstFrame (framesOf ls) m + n)))
+    node-ok : NodeFits (programOf (framesOf ls)) (methodFrame (framesOf ls) m (layout .kAt)) n (nodeOf (framesOf ls (firstFrame (framesOf ls) m + n)))
     unfolding inRange nodeLinked
     node-ok =
         let f = framesOf ls in
         let r = f (firstNode f + (nodesBefore f m + n)) in
-        let w = node-well f (methodFrame f m 1) n (namedBy f (nodesBefore f m) n) r (node-in r (passes .ranged))
-        (names-in f (methodFrame f m 1) r (and-right (fresh n (namedBy f (nodesBefore f m) n) (childrenOf r)) _ both)) fresh-ok in
+        let w = node-well f (methodFrame f m (layout .kAt)) n (namedBy f (nodesBefore f m) n) r (node-in r (passes .ranged))
+        (names-in f (methodFrame f m (layout .kAt)) r (and-right (fresh n (namedBy f (nodesBefore f m) n) (childrenOf r)) _ both)) fresh-ok in
         let q : firstNode f + (nodesBefore f m + n) ≡ firstFrame f m + n = omega arith in
         rw q at w
 
@@ -365,7 +365,7 @@ module _ (ls : List (List ℕ)) (ok : Faultless ls) where
       subst⁻¹ (λ (X : Method). n < length (X .nodes) → NodeFits (programOf f) (X .k) n (nodeAt X n)) e
       (λ h.
       let c : n < nodeCount f m = omega (arith, nodes-length f m) in
-      subst⁻¹ (NodeFits (programOf f) (methodFrame f m 1) n) (node-is f m n c) (node-ok m n hm c))
+      subst⁻¹ (NodeFits (programOf f) (methodFrame f m (layout .kAt)) n) (node-is f m n c) (node-ok m n hm c))
       l
 
   once-any : (m : ℕ) → m < methodsIn (framesOf ls) → (M : Method) → M ≡ methodOf (framesOf ls) m → Once (namedIn (nodeAt M) (length (M .nodes)))

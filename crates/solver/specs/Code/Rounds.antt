@@ -16,7 +16,7 @@ use Rattle.solver.specs.Flat.{programIn, flat}
 -- tables that flat tables have room for
 pub record Fits (t : List ℕ) : Type 0 where
   pub methods : methodsIn (cell t) ≤ layout .mostMethods
-  pub names : (m : ℕ) → m < methodsIn (cell t) → methodOf (cell t) m .k ≤ 4
+  pub names : (m : ℕ) → m < methodsIn (cell t) → methodOf (cell t) m .k ≤ layout .mostNames
   pub frames : lastFrame t ≤ layout .mostFrames
   pub locks : LocksFit t
 

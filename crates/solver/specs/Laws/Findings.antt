@@ -108,7 +108,7 @@ fork-set p a m n u e = ap (forkSet p a) e
 
 -- ---- how many sets, as read off the tables
 
-pub sets-read : (t : List ℕ) → Fits t → (u k r : ℕ) → k ≡ min (methodAt (programIn t) u .k) 4 → r ≡ min (2 ^ k) (layout .grades) → r ≡ entryCount (programIn t) u
+pub sets-read : (t : List ℕ) → Fits t → (u k r : ℕ) → k ≡ min (methodAt (programIn t) u .k) (layout .names) → r ≡ min (2 ^ k) (layout .grades) → r ≡ entryCount (programIn t) u
 unfolding entryCount entries noMethod
 sets-read t fits u k r e f = go (decLt u (methodsIn (cell t)))
   where

@@ -27,13 +27,13 @@ module _ (t : List ℕ) where
   unfolding namesFit every
   names-none = refl
 
-  pub names-more : (m : ℕ) → namesFit t m ≡ true → methodOf (cell t) m .k ≤ 4 → namesFit t (m + 1) ≡ true
+  pub names-more : (m : ℕ) → namesFit t m ≡ true → methodOf (cell t) m .k ≤ layout .mostNames → namesFit t (m + 1) ≡ true
   unfolding namesFit
-  names-more m e h = every-more m (λ i. leb (methodOf (cell t) i .k) 4) e (le-leb (methodOf (cell t) m .k) 4 h)
+  names-more m e h = every-more m (λ i. leb (methodOf (cell t) i .k) (layout .mostNames)) e (le-leb (methodOf (cell t) m .k) (layout .mostNames) h)
 
-  pub names-fail : (methods m : ℕ) → m < methods → 4 < methodOf (cell t) m .k → namesFit t methods ≡ false
+  pub names-fail : (methods m : ℕ) → m < methods → layout .mostNames < methodOf (cell t) m .k → namesFit t methods ≡ false
   unfolding namesFit
-  names-fail methods m l h = every-fails methods (λ i. leb (methodOf (cell t) i .k) 4) m l (lt-leb (methodOf (cell t) m .k) 4 h)
+  names-fail methods m l h = every-fails methods (λ i. leb (methodOf (cell t) i .k) (layout .mostNames)) m l (lt-leb (methodOf (cell t) m .k) (layout .mostNames) h)
 
   pub locks-none : (first : ℕ) → locksFit t first 0 ≡ true
   unfolding locksFit every
@@ -72,7 +72,7 @@ module _ (t : List ℕ) where
       let locks = both-right (namesFit t (methodsIn (cell t))) (locksFit t (firstNodeFrame t) (lastFrame t - firstNodeFrame t)) r2 in
       record {
         methods = leb→le (methodsIn (cell t)) (layout .mostMethods) (both-left (leb (methodsIn (cell t)) (layout .mostMethods)) _ all);
-        names = λ m l. leb→le (methodOf (cell t) m .k) 4 (every-at (methodsIn (cell t)) (λ i. leb (methodOf (cell t) i .k) 4) names m l);
+        names = λ m l. leb→le (methodOf (cell t) m .k) (layout .mostNames) (every-at (methodsIn (cell t)) (λ i. leb (methodOf (cell t) i .k) (layout .mostNames)) names m l);
         frames = leb→le (lastFrame t) (layout .mostFrames) (both-left (leb (lastFrame t) (layout .mostFrames)) _ r1);
         locks = λ j from l six.
             let back : firstNodeFrame t + (j - firstNodeFrame t) ≡ j = omega arith in

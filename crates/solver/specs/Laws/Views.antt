@@ -8,6 +8,7 @@ use mathlib.Core.Path.{_≡_, refl, sym, ap, ap₂, _∙_}
 use native.Mathlib.Omega.{arith}
 use lib.ListN.{length, getD, take, length-take}
 use lib.Seq.{take-all}
+use Rattle.frames.specs.Layout.{layout}
 use Rattle.grades.specs.Grades.{error}
 use Rattle.grades.specs.Access.{readAccess, writeAccess, access}
 use Rattle.grades.specs.HeldSets.{maskNames, held, calleeSet}
@@ -61,7 +62,7 @@ no-field-access true names H = refl
 no-field-access false names H = refl
 
 -- of four names, as many as the callee takes; more than four are the four
-take-few : (k : ℕ) (a b c d : ℕ) → take (min k 4) (a ∷ b ∷ c ∷ d ∷ []) ≡ take k (a ∷ b ∷ c ∷ d ∷ [])
+take-few : (k : ℕ) (a b c d : ℕ) → take (min k (layout .names)) (a ∷ b ∷ c ∷ d ∷ []) ≡ take k (a ∷ b ∷ c ∷ d ∷ [])
 take-few zero a b c d = refl
 take-few (suc zero) a b c d = refl
 take-few (suc (suc zero)) a b c d = refl
@@ -71,10 +72,10 @@ take-few (suc (suc (suc (suc k)))) a b c d =
     ap (λ (n : ℕ). take n (a ∷ b ∷ c ∷ d ∷ [])) four ∙ sym (take-all (suc (suc (suc (suc k)))) (a ∷ b ∷ c ∷ d ∷ []) (omega arith))
 
 -- the callee's set of so many names in a mask
-pub callee-few : (H k a b c d : ℕ) (names : List ℕ) → names ≡ take (min k 4) (a ∷ b ∷ c ∷ d ∷ [])
+pub callee-few : (H k a b c d : ℕ) (names : List ℕ) → names ≡ take (min k (layout .names)) (a ∷ b ∷ c ∷ d ∷ [])
     → calleeSet H (take maskNames names) ≡ calleeSet H (take k (a ∷ b ∷ c ∷ d ∷ []))
 callee-few H k a b c d names e =
-    let few : length names ≡ min (min k 4) 4 = ap length e ∙ length-take (min k 4) (a ∷ b ∷ c ∷ d ∷ []) in
+    let few : length names ≡ min (min k 4) (layout .names) = ap length e ∙ length-take (min k (layout .names)) (a ∷ b ∷ c ∷ d ∷ []) in
     ap (calleeSet H) (take-all maskNames names (omega arith) ∙ e ∙ take-few k a b c d)
 
 -- an access, from what was read off the tables
@@ -92,13 +93,13 @@ access-read t j u w g name r write inside H eu within ew eg en ei er =
 
 -- a callee's entry, from what was read off the tables
 pub entry-read : (t : List ℕ) (a : Assignment) (j u k n0 n1 n2 n3 S r H : ℕ) (names : List ℕ) → u ≡ nodeIn t j .U
-    → k ≡ min (methodAt (programIn t) u .k) 4
+    → k ≡ min (methodAt (programIn t) u .k) (layout .names)
     → n0 ≡ getD (nodeIn t j .names) 0 0 → n1 ≡ getD (nodeIn t j .names) 1 0 → n2 ≡ getD (nodeIn t j .names) 2 0 → n3 ≡ getD (nodeIn t j .names) 3 0
     → names ≡ take k (n0 ∷ n1 ∷ n2 ∷ n3 ∷ []) → S ≡ calleeSet H (take maskNames names) → r ≡ a u S
     → r ≡ calleeEntry (methodAt (programIn t) (nodeIn t j .U) .k) (a (nodeIn t j .U)) (nodeIn t j .names) H
 entry-read t a j u k n0 n1 n2 n3 S r H names eu ek e0 e1 e2 e3 en eS er =
     let same : nodeIn t j .names ≡ n0 ∷ n1 ∷ n2 ∷ n3 ∷ [] = four-names t j ∙ (cc) in
-    let few : names ≡ take (min (methodAt (programIn t) u .k) 4) (n0 ∷ n1 ∷ n2 ∷ n3 ∷ []) = en ∙ ap (λ (i : ℕ). take i (n0 ∷ n1 ∷ n2 ∷ n3 ∷ [])) ek in
+    let few : names ≡ take (min (methodAt (programIn t) u .k) (layout .names)) (n0 ∷ n1 ∷ n2 ∷ n3 ∷ []) = en ∙ ap (λ (i : ℕ). take i (n0 ∷ n1 ∷ n2 ∷ n3 ∷ [])) ek in
     let set : S ≡ calleeSet H (take (methodAt (programIn t) u .k) (nodeIn t j .names))
     = eS ∙ callee-few H (methodAt (programIn t) u .k) n0 n1 n2 n3 names few ∙ ap (λ (l : List ℕ). calleeSet H (take (methodAt (programIn t) u .k) l)) (sym same) in
     er ∙ ap (a u) set

@@ -8,7 +8,7 @@ use Rattle.frames.proofs.accessors.entries.Statement.{statement}
 use Rattle.frames.proofs.accessors.entries.Tie as tie
 
 -- 16 held sets from four names on
-many : (k : ℕ) → 4 ≤ k → layout .grades ≤ 2 ^ k
+many : (k : ℕ) → layout .mostNames ≤ k → layout .grades ≤ 2 ^ k
 many k h = pow-mono h
 
 returns : tie.Need-returns

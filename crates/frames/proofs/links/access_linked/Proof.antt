@@ -2,6 +2,7 @@
 -- Assumes nothing.
 use lib.Dec.{eqb}
 use Prim.Native.Nat.{ℕ}
+use Rattle.frames.specs.Layout.{layout}
 use Rattle.frames.specs.Frames.{fieldFrame}
 use Rattle.frames.specs.Links.{guardUses, nameOrNone}
 use Rattle.frames.specs.Laws.Links.{access-outside, access-used, access-unused}
@@ -43,7 +44,7 @@ returns-2 c =
     let a = c .before .before .before .before .before .before .before .before .before .args in
     let f = cell (now (a .tables)) in
     let r = f (a .j) in
-    let g = sym (c .before .before .guard-uses .ensures ∙ ap guardUses (c .before .before .before .guard .ensures .is ∙ ap (λ (x : ℕ). fieldFrame f x 2) (c .before .before .before .before .before .before .before .cell .ensures .is))) ∙ c .before .if2 .taken in
+    let g = sym (c .before .before .guard-uses .ensures ∙ ap guardUses (c .before .before .before .guard .ensures .is ∙ ap (λ (x : ℕ). fieldFrame f x (layout .guardAt)) (c .before .before .before .before .before .before .before .cell .ensures .is))) ∙ c .before .if2 .taken in
     c .name-or-none .ensures ∙ (ap (nameOrNone (a .k)) (c .before .before .before .before .before .before .cell2 .ensures .is) ∙ sym (access-used f (a .k) r (omega arith) g))
 
 returns-3 : tie.Need-returns-3
@@ -51,7 +52,7 @@ returns-3 c =
     let a = c .before .before .before .before .before .before .before .before .args in
     let f = cell (now (a .tables)) in
     let r = f (a .j) in
-    let g = sym (c .before .guard-uses .ensures ∙ ap guardUses (c .before .before .guard .ensures .is ∙ ap (λ (x : ℕ). fieldFrame f x 2) (c .before .before .before .before .before .before .cell .ensures .is))) ∙ c .if2 .left in
+    let g = sym (c .before .guard-uses .ensures ∙ ap guardUses (c .before .before .guard .ensures .is ∙ ap (λ (x : ℕ). fieldFrame f x (layout .guardAt)) (c .before .before .before .before .before .before .cell .ensures .is))) ∙ c .if2 .left in
     ap (λ (x : ℕ). eqb x 0) (c .before .before .before .before .before .cell2 .ensures .is) ∙ sym (access-unused f (a .k) r (omega arith) g)
 
 pub access-linked-spec : {M : Type 1} → statement M

@@ -1,5 +1,6 @@
 -- `call_linked` meets its contract.
 -- Assumes nothing.
+use Rattle.frames.specs.Layout.{layout}
 use Rattle.frames.specs.Links.{callNameLinked}
 use Prim.Native.Nat.{ℕ}
 use Rattle.frames.specs.Frames.{methodFrame}
@@ -38,7 +39,7 @@ returns-2 c =
     let f = cell (now (a .tables)) in
     let r = f (a .j) in
     c .call-names-linked .ensures
-    ∙ (ap (λ (n : ℕ). every 4 (callNameLinked n (a .own) r)) (c .before .k .ensures .is ∙ ap (λ (x : ℕ). methodFrame f x 1) (c .before .before .before .before .cell .ensures .is))
+    ∙ (ap (λ (n : ℕ). every (layout .names) (callNameLinked n (a .own) r)) (c .before .k .ensures .is ∙ ap (λ (x : ℕ). methodFrame f x (layout .kAt)) (c .before .before .before .before .cell .ensures .is))
     ∙ sym (call-inside f (a .own) r (omega arith)))
 
 pub call-linked-spec : {M : Type 1} → statement M

@@ -1,5 +1,6 @@
 -- `call_names_linked` meets its contract: all names that the loop passed are linked.
 -- Assumes nothing.
+use Rattle.frames.specs.Layout.{layout}
 use Rattle.frames.specs.Links.{callNameLinked}
 use mathlib.Core.Bool.{true}
 use Prim.Native.Nat.{ℕ, _≤_, _-_}
@@ -15,10 +16,10 @@ use Rattle.frames.proofs.links.call_names_linked.Tie as tie
 
 abbrev Inv-loop : tie.InvT-loop
 Inv-loop tables j callee k t₀ t =
-    (every t (callNameLinked callee k (cell tables j)) ≡ true) × (t ≤ 4)
+    (every t (callNameLinked callee k (cell tables j)) ≡ true) × (t ≤ layout .names)
 
 abbrev μ-loop : tie.MeasureT-loop
-μ-loop tables j callee k t₀ t = 4 - t
+μ-loop tables j callee k t₀ t = layout .names - t
 
 loop-holds : tie.Need-loop-holds Inv-loop μ-loop
 unfolding every
@@ -31,7 +32,7 @@ returns : tie.Need-returns Inv-loop μ-loop
 returns c =
     let a = c .before .before .before .before .before .args in
     let p = callNameLinked (a .callee) (a .k) (cell (now (a .tables)) (a .j)) in
-    sym (every-fails 4 p (c .before .before .before .loop .t) (omega arith) (sym (c .before .call-name-linked .ensures) ∙ not-true _ (c .if1 .taken)))
+    sym (every-fails (layout .names) p (c .before .before .before .loop .t) (omega arith) (sym (c .before .call-name-linked .ensures) ∙ not-true _ (c .if1 .taken)))
 
 add-t : tie.Need-add-t Inv-loop μ-loop
 add-t c = omega arith
@@ -49,7 +50,7 @@ returns-2 : tie.Need-returns-2 Inv-loop μ-loop
 returns-2 c =
     let a = c .before .before .before .args in
     let p = callNameLinked (a .callee) (a .k) (cell (now (a .tables)) (a .j)) in
-    let e : c .before .loop .t ≡ 4 = omega arith in
+    let e : c .before .loop .t ≡ layout .names = omega arith in
     sym (ap (λ (n : ℕ). every n p) (sym e) ∙ c .before .loop .inv .0)
 
 pub call-names-linked-spec : {M : Type 1} → statement M

@@ -2,6 +2,7 @@
 -- Assumes nothing.
 use lib.Dec.{ltb}
 use Prim.Native.Nat.{ℕ}
+use Rattle.frames.specs.Layout.{layout}
 use Rattle.frames.specs.Frames.{methodFrame}
 use Rattle.frames.specs.Laws.Links.{fork-outside, fork-inside}
 use denote.Ref.{now}
@@ -33,7 +34,7 @@ returns-2 c =
     let a = c .before .before .before .before .before .args in
     let f = cell (now (a .tables)) in
     let r = f (a .j) in
-    ap (λ (x : ℕ). ltb 0 x) (c .k .ensures .is ∙ ap (λ (x : ℕ). methodFrame f x 1) (c .before .before .before .cell .ensures .is)) ∙ sym (fork-inside f 0 r (omega arith))
+    ap (λ (x : ℕ). ltb 0 x) (c .k .ensures .is ∙ ap (λ (x : ℕ). methodFrame f x (layout .kAt)) (c .before .before .before .cell .ensures .is)) ∙ sym (fork-inside f 0 r (omega arith))
 
 pub fork-linked-spec : {M : Type 1} → statement M
 fork-linked-spec = tie.close (tie.spec cell-requires methods-requires returns k-requires returns-2)

@@ -1,5 +1,6 @@
 -- `grade_in_range` meets its contract: below 16 the count of listed grades may be cut at 16.
 -- Assumes nothing.
+use Rattle.frames.specs.Layout.{layout}
 use Rattle.frames.specs.Laws.Ranges.{grade-listed, grade-unlisted}
 use lib.Dec.{leb, eqb}
 use Prim.Native.Nat.{ℕ}
@@ -19,7 +20,7 @@ cell-requires c κs = search needs
 returns : tie.Need-returns
 returns c =
     let r = cell (now (c .before .before .before .args .tables)) (c .before .before .before .args .j) in
-    ap (λ (x : ℕ). leb x 4) (c .before .cell .ensures .is)
+    ap (λ (x : ℕ). leb x (layout .mostGrade)) (c .before .cell .ensures .is)
     ∙ sym (grade-listed r _ _ (c .before .before .before .pre .0) (c .before .before .before .pre .1) (c .if1 .taken))
 
 returns-2 : tie.Need-returns-2

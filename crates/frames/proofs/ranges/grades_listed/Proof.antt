@@ -25,13 +25,13 @@ returns : tie.Need-returns
 unfolding gradesListed
 returns c =
     let r = cell (now (c .before .before .before .before .before .args .tables)) (c .before .before .before .before .before .args .j) in
-    simp (eq-eqb (r 4) 1 (omega arith)) (c .entries .ensures ∙ ap (λ (k : ℕ). min (2 ^ k) (layout .grades)) (c .before .cell2 .ensures .is))
+    simp (eq-eqb (r (layout .declaredAt)) 1 (omega arith)) (c .entries .ensures ∙ ap (λ (k : ℕ). min (2 ^ k) (layout .grades)) (c .before .cell2 .ensures .is))
 
 returns-2 : tie.Need-returns-2
 unfolding gradesListed
 returns-2 c =
     let r = cell (now (c .before .before .before .args .tables)) (c .before .before .before .args .j) in
-    simp (ne-eqb (r 4) 1 (λ e. c .if1 .left (c .before .cell .ensures .is ∙ e)))
+    simp (ne-eqb (r (layout .declaredAt)) 1 (λ e. c .if1 .left (c .before .cell .ensures .is ∙ e)))
 
 pub grades-listed-spec : {M : Type 1} → statement M
 grades-listed-spec =

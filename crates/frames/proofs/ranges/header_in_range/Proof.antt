@@ -24,37 +24,37 @@ returns : tie.Need-returns
 unfolding headerInRange
 returns c =
     let r = cell (now (c .before .before .before .before .before .args .tables)) (c .before .before .before .before .before .args .j) in
-    simp (lt-leb 1 (r 1) (omega arith))
+    simp (lt-leb 1 (r (layout .methodsAt)) (omega arith))
 
 returns-2 : tie.Need-returns-2
 unfolding headerInRange
 returns-2 c =
     let r = cell (now (c .before .before .before .before .before .before .args .tables)) (c .before .before .before .before .before .before .args .j) in
-    simp (le-leb 1 (r 1) (omega arith), lt-leb (r 1) (layout .mostMethods) (omega arith))
+    simp (le-leb 1 (r (layout .methodsAt)) (omega arith), lt-leb (r (layout .methodsAt)) (layout .mostMethods) (omega arith))
 
 returns-3 : tie.Need-returns-3
 unfolding headerInRange
 returns-3 c =
     let r = cell (now (c .before .before .before .before .before .before .before .args .tables)) (c .before .before .before .before .before .before .before .args .j) in
-    simp (le-leb 1 (r 1) (omega arith), le-leb (r 1) (layout .mostMethods) (omega arith), lt-leb (r 2) (layout .mostFields) (omega arith))
+    simp (le-leb 1 (r (layout .methodsAt)) (omega arith), le-leb (r (layout .methodsAt)) (layout .mostMethods) (omega arith), lt-leb (r (layout .fieldsAt)) (layout .mostFields) (omega arith))
 
 returns-4 : tie.Need-returns-4
 unfolding headerInRange
 returns-4 c =
     let r = cell (now (c .before .before .before .before .before .before .before .before .args .tables)) (c .before .before .before .before .before .before .before .before .args .j) in
-    simp (le-leb 1 (r 1) (omega arith), le-leb (r 1) (layout .mostMethods) (omega arith), le-leb (r 2) (layout .mostFields) (omega arith), lt-leb 1 (two r 3) (omega arith))
+    simp (le-leb 1 (r (layout .methodsAt)) (omega arith), le-leb (r (layout .methodsAt)) (layout .mostMethods) (omega arith), le-leb (r (layout .fieldsAt)) (layout .mostFields) (omega arith), lt-leb 1 (two r (layout .nodesAt)) (omega arith))
 
 returns-5 : tie.Need-returns-5
 unfolding headerInRange
 returns-5 c =
     let r = cell (now (c .before .before .before .before .before .before .before .before .before .args .tables)) (c .before .before .before .before .before .before .before .before .before .args .j) in
-    simp (le-leb 1 (r 1) (omega arith), le-leb (r 1) (layout .mostMethods) (omega arith), le-leb (r 2) (layout .mostFields) (omega arith), le-leb 1 (two r 3) (omega arith), lt-leb (two r 3) (layout .mostNodes) (omega arith))
+    simp (le-leb 1 (r (layout .methodsAt)) (omega arith), le-leb (r (layout .methodsAt)) (layout .mostMethods) (omega arith), le-leb (r (layout .fieldsAt)) (layout .mostFields) (omega arith), le-leb 1 (two r (layout .nodesAt)) (omega arith), lt-leb (two r (layout .nodesAt)) (layout .mostNodes) (omega arith))
 
 returns-6 : tie.Need-returns-6
 unfolding headerInRange
 returns-6 c =
     let r = cell (now (c .before .before .before .before .before .before .before .before .before .args .tables)) (c .before .before .before .before .before .before .before .before .before .args .j) in
-    simp (le-leb 1 (r 1) (omega arith), le-leb (r 1) (layout .mostMethods) (omega arith), le-leb (r 2) (layout .mostFields) (omega arith), le-leb 1 (two r 3) (omega arith), le-leb (two r 3) (layout .mostNodes) (omega arith))
+    simp (le-leb 1 (r (layout .methodsAt)) (omega arith), le-leb (r (layout .methodsAt)) (layout .mostMethods) (omega arith), le-leb (r (layout .fieldsAt)) (layout .mostFields) (omega arith), le-leb 1 (two r (layout .nodesAt)) (omega arith), le-leb (two r (layout .nodesAt)) (layout .mostNodes) (omega arith))
 
 pub header-in-range-spec : {M : Type 1} → statement M
 header-in-range-spec =

@@ -26,21 +26,21 @@ unfolding methodInRange
 returns c =
     let r = cell (now (c .before .before .before .before .before .args .tables)) (c .before .before .before .before .before .args .j) in
     let main = c .before .before .before .before .before .args .main in
-    simp (lt-leb (r 1) (cond main 0 4) (omega arith))
+    simp (lt-leb (r (layout .kAt)) (cond main 0 (layout .mostNames)) (omega arith))
 
 returns-2 : tie.Need-returns-2
 unfolding methodInRange
 returns-2 c =
     let r = cell (now (c .before .before .before .before .before .before .args .tables)) (c .before .before .before .before .before .before .args .j) in
     let main = c .before .before .before .before .before .before .args .main in
-    simp (le-leb (r 1) (cond main 0 4) (omega arith), lt-leb 1 (two r 2) (omega arith))
+    simp (le-leb (r (layout .kAt)) (cond main 0 (layout .mostNames)) (omega arith), lt-leb 1 (two r (layout .countAt)) (omega arith))
 
 returns-3 : tie.Need-returns-3
 unfolding methodInRange
 returns-3 c =
     let r = cell (now (c .before .before .before .before .before .before .before .args .tables)) (c .before .before .before .before .before .before .before .args .j) in
     let main = c .before .before .before .before .before .before .before .args .main in
-    simp (le-leb (r 1) (cond main 0 4) (omega arith), le-leb 1 (two r 2) (omega arith), lt-leb (two r 2) (layout .mostNodes) (omega arith))
+    simp (le-leb (r (layout .kAt)) (cond main 0 (layout .mostNames)) (omega arith), le-leb 1 (two r (layout .countAt)) (omega arith), lt-leb (two r (layout .countAt)) (layout .mostNodes) (omega arith))
 
 cell-requires-2 : tie.Need-cell-requires-2
 cell-requires-2 c κs = search needs
@@ -50,7 +50,7 @@ unfolding methodInRange
 returns-4 c =
     let r = cell (now (c .before .before .before .before .before .before .before .before .before .args .tables)) (c .before .before .before .before .before .before .before .before .before .args .j) in
     let main = c .before .before .before .before .before .before .before .before .before .args .main in
-    simp (le-leb (r 1) (cond main 0 4) (omega arith), le-leb 1 (two r 2) (omega arith), le-leb (two r 2) (layout .mostNodes) (omega arith), lt-leb (r 4) 1 (omega arith))
+    simp (le-leb (r (layout .kAt)) (cond main 0 (layout .mostNames)) (omega arith), le-leb 1 (two r (layout .countAt)) (omega arith), le-leb (two r (layout .countAt)) (layout .mostNodes) (omega arith), lt-leb (r (layout .declaredAt)) 1 (omega arith))
 
 grades-in-range-requires : tie.Need-grades-in-range-requires
 grades-in-range-requires c κs = search needs
@@ -60,7 +60,7 @@ unfolding methodInRange
 returns-5 c =
     let r = cell (now (c .before .before .before .before .before .before .before .before .before .before .args .tables)) (c .before .before .before .before .before .before .before .before .before .before .args .j) in
     let main = c .before .before .before .before .before .before .before .before .before .before .args .main in
-    simp (le-leb (r 1) (cond main 0 4) (omega arith), le-leb 1 (two r 2) (omega arith), le-leb (two r 2) (layout .mostNodes) (omega arith), le-leb (r 4) 1 (omega arith)) (c .grades-in-range .ensures)
+    simp (le-leb (r (layout .kAt)) (cond main 0 (layout .mostNames)) (omega arith), le-leb 1 (two r (layout .countAt)) (omega arith), le-leb (two r (layout .countAt)) (layout .mostNodes) (omega arith), le-leb (r (layout .declaredAt)) 1 (omega arith)) (c .grades-in-range .ensures)
 
 pub method-in-range-spec : {M : Type 1} → statement M
 method-in-range-spec =

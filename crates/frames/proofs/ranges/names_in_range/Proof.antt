@@ -1,5 +1,6 @@
 -- `names_in_range` meets its contract: all that the loop passed are in range.
 -- Assumes nothing.
+use Rattle.frames.specs.Layout.{layout}
 use Rattle.frames.specs.Ranges.{namesListed, nameInRange}
 use mathlib.Core.Bool.{true}
 use Prim.Native.Nat.{ℕ, _≤_, _-_}
@@ -16,10 +17,10 @@ use Rattle.frames.proofs.ranges.names_in_range.Tie as tie
 
 abbrev Inv-loop : tie.InvT-loop
 Inv-loop tables j listed t₀ t =
-    (every t (nameInRange (cell tables j)) ≡ true) × ((t ≤ 4) × (listed ≡ namesListed (cell tables j 1)))
+    (every t (nameInRange (cell tables j)) ≡ true) × ((t ≤ layout .names) × (listed ≡ namesListed (cell tables j 1)))
 
 abbrev μ-loop : tie.MeasureT-loop
-μ-loop tables j listed t₀ t = 4 - t
+μ-loop tables j listed t₀ t = layout .names - t
 
 cell-requires : tie.Need-cell-requires Inv-loop μ-loop
 cell-requires c κs = search needs
@@ -37,7 +38,7 @@ name-in-range-requires c κs = (omega arith, c .before .loop .inv .1 .1)
 returns : tie.Need-returns Inv-loop μ-loop
 returns c =
     let r = cell (now (c .before .before .before .before .before .before .before .args .tables)) (c .before .before .before .before .before .before .before .args .j) in
-    sym (every-fails 4 (nameInRange r) (c .before .before .before .loop .t) (omega arith) (sym (c .before .name-in-range .ensures) ∙ not-true _ (c .if1 .taken)))
+    sym (every-fails (layout .names) (nameInRange r) (c .before .before .before .loop .t) (omega arith) (sym (c .before .name-in-range .ensures) ∙ not-true _ (c .if1 .taken)))
 
 add-t : tie.Need-add-t Inv-loop μ-loop
 add-t c = omega arith
@@ -53,7 +54,7 @@ loop-again c =
 returns-2 : tie.Need-returns-2 Inv-loop μ-loop
 returns-2 c =
     let r = cell (now (c .before .before .before .before .before .args .tables)) (c .before .before .before .before .before .args .j) in
-    let e : c .before .loop .t ≡ 4 = omega arith in
+    let e : c .before .loop .t ≡ layout .names = omega arith in
     sym (ap (λ (n : ℕ). every n (nameInRange r)) (sym e) ∙ c .before .loop .inv .0)
 
 pub names-in-range-spec : {M : Type 1} → statement M

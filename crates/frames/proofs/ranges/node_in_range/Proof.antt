@@ -1,5 +1,6 @@
 -- `node_in_range` meets its contract: the tests are the definition's.
 -- Assumes nothing.
+use Rattle.frames.specs.Layout.{layout}
 use Rattle.frames.specs.Ranges.{childrenListed, usesField, usesMethod}
 use Rattle.frames.specs.Laws.Ranges.{operand, fails-first, fails-later, holds-then}
 use mathlib.Core.Bool.{_||_}
@@ -26,7 +27,7 @@ returns : tie.Need-returns
 unfolding nodeInRange
 returns c =
     let r = cell (now (c .before .before .before .before .args .tables)) (c .before .before .before .before .args .j) in
-    sym (fails-first _ _ (lt-leb (r 1) 9 (omega arith)))
+    sym (fails-first _ _ (lt-leb (r (layout .opAt)) 9 (omega arith)))
 
 two-requires : tie.Need-two-requires
 two-requires c κs = search needs
@@ -40,8 +41,8 @@ returns-2 c =
     let r = cell (now (c .before .before .before .before .before .before .before .args .tables)) (c .before .before .before .before .before .before .before .args .j) in
     let o = c .before .before .before .before .before .cell .ensures .is in
     let s = c .before .before .before .before .children-listed .ensures ∙ ap childrenListed o in
-    sym (fails-later _ _ (le-leb (r 1) 9 (omega arith))
-    (fails-first _ _ (operand _ (ltb 0 (childrenListed (r 1))) _ (two r 2) _ _ (c .before .listed-or-zero .ensures) (ap (ltb 0) s) (c .before .before .two .ensures .is) (not-true _ (c .if2 .taken)))))
+    sym (fails-later _ _ (le-leb (r (layout .opAt)) 9 (omega arith))
+    (fails-first _ _ (operand _ (ltb 0 (childrenListed (r (layout .opAt)))) _ (two r (layout .XAt)) _ _ (c .before .listed-or-zero .ensures) (ap (ltb 0) s) (c .before .before .two .ensures .is) (not-true _ (c .if2 .taken)))))
 
 two-requires-2 : tie.Need-two-requires-2
 two-requires-2 c κs = search needs
@@ -55,9 +56,9 @@ returns-3 c =
     let r = cell (now (c .before .before .before .before .before .before .before .before .before .before .args .tables)) (c .before .before .before .before .before .before .before .before .before .before .args .j) in
     let o = c .before .before .before .before .before .before .before .before .cell .ensures .is in
     let s = c .before .before .before .before .before .before .before .children-listed .ensures ∙ ap childrenListed o in
-    sym (fails-later _ _ (le-leb (r 1) 9 (omega arith))
-    (fails-later _ _ (operand _ (ltb 0 (childrenListed (r 1))) _ (two r 2) _ _ (c .before .before .before .before .listed-or-zero .ensures) (ap (ltb 0) s) (c .before .before .before .before .before .two .ensures .is) (not-false _ (c .before .before .before .if2 .left)))
-    (fails-first _ _ (operand _ (ltb 1 (childrenListed (r 1))) _ (two r 4) _ _ (c .before .listed-or-zero2 .ensures) (ap (ltb 1) s) (c .before .before .two2 .ensures .is) (not-true _ (c .if3 .taken))))))
+    sym (fails-later _ _ (le-leb (r (layout .opAt)) 9 (omega arith))
+    (fails-later _ _ (operand _ (ltb 0 (childrenListed (r (layout .opAt)))) _ (two r (layout .XAt)) _ _ (c .before .before .before .before .listed-or-zero .ensures) (ap (ltb 0) s) (c .before .before .before .before .before .two .ensures .is) (not-false _ (c .before .before .before .if2 .left)))
+    (fails-first _ _ (operand _ (ltb 1 (childrenListed (r (layout .opAt)))) _ (two r (layout .YAt)) _ _ (c .before .listed-or-zero2 .ensures) (ap (ltb 1) s) (c .before .before .two2 .ensures .is) (not-true _ (c .if3 .taken))))))
 
 two-requires-3 : tie.Need-two-requires-3
 two-requires-3 c κs = search needs
@@ -71,10 +72,10 @@ returns-4 c =
     let r = cell (now (c .before .before .before .before .before .before .before .before .before .before .before .before .before .args .tables)) (c .before .before .before .before .before .before .before .before .before .before .before .before .before .args .j) in
     let o = c .before .before .before .before .before .before .before .before .before .before .before .cell .ensures .is in
     let s = c .before .before .before .before .before .before .before .before .before .before .children-listed .ensures ∙ ap childrenListed o in
-    sym (fails-later _ _ (le-leb (r 1) 9 (omega arith))
-    (fails-later _ _ (operand _ (ltb 0 (childrenListed (r 1))) _ (two r 2) _ _ (c .before .before .before .before .before .before .before .listed-or-zero .ensures) (ap (ltb 0) s) (c .before .before .before .before .before .before .before .before .two .ensures .is) (not-false _ (c .before .before .before .before .before .before .if2 .left)))
-    (fails-later _ _ (operand _ (ltb 1 (childrenListed (r 1))) _ (two r 4) _ _ (c .before .before .before .before .listed-or-zero2 .ensures) (ap (ltb 1) s) (c .before .before .before .before .before .two2 .ensures .is) (not-false _ (c .before .before .before .if3 .left)))
-    (fails-first _ _ (operand _ (ltb 2 (childrenListed (r 1))) _ (two r 6) _ _ (c .before .listed-or-zero3 .ensures) (ap (ltb 2) s) (c .before .before .two3 .ensures .is) (not-true _ (c .if4 .taken)))))))
+    sym (fails-later _ _ (le-leb (r (layout .opAt)) 9 (omega arith))
+    (fails-later _ _ (operand _ (ltb 0 (childrenListed (r (layout .opAt)))) _ (two r (layout .XAt)) _ _ (c .before .before .before .before .before .before .before .listed-or-zero .ensures) (ap (ltb 0) s) (c .before .before .before .before .before .before .before .before .two .ensures .is) (not-false _ (c .before .before .before .before .before .before .if2 .left)))
+    (fails-later _ _ (operand _ (ltb 1 (childrenListed (r (layout .opAt)))) _ (two r (layout .YAt)) _ _ (c .before .before .before .before .listed-or-zero2 .ensures) (ap (ltb 1) s) (c .before .before .before .before .before .two2 .ensures .is) (not-false _ (c .before .before .before .if3 .left)))
+    (fails-first _ _ (operand _ (ltb 2 (childrenListed (r (layout .opAt)))) _ (two r (layout .ZAt)) _ _ (c .before .listed-or-zero3 .ensures) (ap (ltb 2) s) (c .before .before .two3 .ensures .is) (not-true _ (c .if4 .taken)))))))
 
 uses-requires : tie.Need-uses-requires
 uses-requires c κs = search needs
@@ -91,11 +92,11 @@ returns-5 c =
     let r = cell (now (c .before .before .before .before .before .before .before .before .before .before .before .before .before .before .before .before .before .args .tables)) (c .before .before .before .before .before .before .before .before .before .before .before .before .before .before .before .before .before .args .j) in
     let o = c .before .before .before .before .before .before .before .before .before .before .before .before .before .before .before .cell .ensures .is in
     let s = c .before .before .before .before .before .before .before .before .before .before .before .before .before .before .children-listed .ensures ∙ ap childrenListed o in
-    sym (fails-later _ _ (le-leb (r 1) 9 (omega arith))
-    (fails-later _ _ (operand _ (ltb 0 (childrenListed (r 1))) _ (two r 2) _ _ (c .before .before .before .before .before .before .before .before .before .before .before .listed-or-zero .ensures) (ap (ltb 0) s) (c .before .before .before .before .before .before .before .before .before .before .before .before .two .ensures .is) (not-false _ (c .before .before .before .before .before .before .before .before .before .before .if2 .left)))
-    (fails-later _ _ (operand _ (ltb 1 (childrenListed (r 1))) _ (two r 4) _ _ (c .before .before .before .before .before .before .before .before .listed-or-zero2 .ensures) (ap (ltb 1) s) (c .before .before .before .before .before .before .before .before .before .two2 .ensures .is) (not-false _ (c .before .before .before .before .before .before .before .if3 .left)))
-    (fails-later _ _ (operand _ (ltb 2 (childrenListed (r 1))) _ (two r 6) _ _ (c .before .before .before .before .before .listed-or-zero3 .ensures) (ap (ltb 2) s) (c .before .before .before .before .before .before .two3 .ensures .is) (not-false _ (c .before .before .before .before .if4 .left)))
-    (fails-first _ _ (operand _ (usesField (r 1) || usesMethod (r 1)) _ (r 8) _ _ (c .before .listed-or-zero4 .ensures) (c .before .before .before .uses .ensures ∙ ap (λ (x : ℕ). usesField x || usesMethod x) o) (c .before .before .cell2 .ensures .is) (not-true _ (c .if5 .taken))))))))
+    sym (fails-later _ _ (le-leb (r (layout .opAt)) 9 (omega arith))
+    (fails-later _ _ (operand _ (ltb 0 (childrenListed (r (layout .opAt)))) _ (two r (layout .XAt)) _ _ (c .before .before .before .before .before .before .before .before .before .before .before .listed-or-zero .ensures) (ap (ltb 0) s) (c .before .before .before .before .before .before .before .before .before .before .before .before .two .ensures .is) (not-false _ (c .before .before .before .before .before .before .before .before .before .before .if2 .left)))
+    (fails-later _ _ (operand _ (ltb 1 (childrenListed (r (layout .opAt)))) _ (two r (layout .YAt)) _ _ (c .before .before .before .before .before .before .before .before .listed-or-zero2 .ensures) (ap (ltb 1) s) (c .before .before .before .before .before .before .before .before .before .two2 .ensures .is) (not-false _ (c .before .before .before .before .before .before .before .if3 .left)))
+    (fails-later _ _ (operand _ (ltb 2 (childrenListed (r (layout .opAt)))) _ (two r (layout .ZAt)) _ _ (c .before .before .before .before .before .listed-or-zero3 .ensures) (ap (ltb 2) s) (c .before .before .before .before .before .before .two3 .ensures .is) (not-false _ (c .before .before .before .before .if4 .left)))
+    (fails-first _ _ (operand _ (usesField (r (layout .opAt)) || usesMethod (r (layout .opAt))) _ (r (layout .UAt)) _ _ (c .before .listed-or-zero4 .ensures) (c .before .before .before .uses .ensures ∙ ap (λ (x : ℕ). usesField x || usesMethod x) o) (c .before .before .cell2 .ensures .is) (not-true _ (c .if5 .taken))))))))
 
 names-in-range-requires : tie.Need-names-in-range-requires
 names-in-range-requires c κs = search needs
@@ -106,11 +107,11 @@ returns-6 c =
     let r = cell (now (c .before .before .before .before .before .before .before .before .before .before .before .before .before .before .before .before .before .before .args .tables)) (c .before .before .before .before .before .before .before .before .before .before .before .before .before .before .before .before .before .before .args .j) in
     let o = c .before .before .before .before .before .before .before .before .before .before .before .before .before .before .before .before .cell .ensures .is in
     let s = c .before .before .before .before .before .before .before .before .before .before .before .before .before .before .before .children-listed .ensures ∙ ap childrenListed o in
-    sym (holds-then _ _ _ (le-leb (r 1) 9 (omega arith))
-    (holds-then _ _ _ (operand _ (ltb 0 (childrenListed (r 1))) _ (two r 2) _ _ (c .before .before .before .before .before .before .before .before .before .before .before .before .listed-or-zero .ensures) (ap (ltb 0) s) (c .before .before .before .before .before .before .before .before .before .before .before .before .before .two .ensures .is) (not-false _ (c .before .before .before .before .before .before .before .before .before .before .before .if2 .left)))
-    (holds-then _ _ _ (operand _ (ltb 1 (childrenListed (r 1))) _ (two r 4) _ _ (c .before .before .before .before .before .before .before .before .before .listed-or-zero2 .ensures) (ap (ltb 1) s) (c .before .before .before .before .before .before .before .before .before .before .two2 .ensures .is) (not-false _ (c .before .before .before .before .before .before .before .before .if3 .left)))
-    (holds-then _ _ _ (operand _ (ltb 2 (childrenListed (r 1))) _ (two r 6) _ _ (c .before .before .before .before .before .before .listed-or-zero3 .ensures) (ap (ltb 2) s) (c .before .before .before .before .before .before .before .two3 .ensures .is) (not-false _ (c .before .before .before .before .before .if4 .left)))
-    (holds-then _ _ _ (operand _ (usesField (r 1) || usesMethod (r 1)) _ (r 8) _ _ (c .before .before .listed-or-zero4 .ensures) (c .before .before .before .before .uses .ensures ∙ ap (λ (x : ℕ). usesField x || usesMethod x) o) (c .before .before .before .cell2 .ensures .is) (not-false _ (c .before .if5 .left)))
+    sym (holds-then _ _ _ (le-leb (r (layout .opAt)) 9 (omega arith))
+    (holds-then _ _ _ (operand _ (ltb 0 (childrenListed (r (layout .opAt)))) _ (two r (layout .XAt)) _ _ (c .before .before .before .before .before .before .before .before .before .before .before .before .listed-or-zero .ensures) (ap (ltb 0) s) (c .before .before .before .before .before .before .before .before .before .before .before .before .before .two .ensures .is) (not-false _ (c .before .before .before .before .before .before .before .before .before .before .before .if2 .left)))
+    (holds-then _ _ _ (operand _ (ltb 1 (childrenListed (r (layout .opAt)))) _ (two r (layout .YAt)) _ _ (c .before .before .before .before .before .before .before .before .before .listed-or-zero2 .ensures) (ap (ltb 1) s) (c .before .before .before .before .before .before .before .before .before .before .two2 .ensures .is) (not-false _ (c .before .before .before .before .before .before .before .before .if3 .left)))
+    (holds-then _ _ _ (operand _ (ltb 2 (childrenListed (r (layout .opAt)))) _ (two r (layout .ZAt)) _ _ (c .before .before .before .before .before .before .listed-or-zero3 .ensures) (ap (ltb 2) s) (c .before .before .before .before .before .before .before .two3 .ensures .is) (not-false _ (c .before .before .before .before .before .if4 .left)))
+    (holds-then _ _ _ (operand _ (usesField (r (layout .opAt)) || usesMethod (r (layout .opAt))) _ (r (layout .UAt)) _ _ (c .before .before .listed-or-zero4 .ensures) (c .before .before .before .before .uses .ensures ∙ ap (λ (x : ℕ). usesField x || usesMethod x) o) (c .before .before .before .cell2 .ensures .is) (not-false _ (c .before .if5 .left)))
     (sym (c .names-in-range .ensures)))))))
 
 pub node-in-range-spec : {M : Type 1} → statement M

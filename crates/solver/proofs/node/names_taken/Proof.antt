@@ -3,6 +3,7 @@
 use mathlib.Core.Path.{_≡_, refl, sym, ap, ap₂, _∙_}
 use native.Mathlib.Omega.{arith}
 use Prim.Native.Nat.{ℕ, _≤_, min}
+use Rattle.frames.specs.Layout.{layout}
 use Rattle.frames.specs.Frames.{methodsIn}
 use Rattle.frames.specs.Tables.{cell}
 use denote.Ref.{now}
@@ -21,7 +22,7 @@ unfolding noMethod
 returns c =
     let a = c .before .before .before .args in
     let past : methodsIn (cell (now (a .tables))) ≤ a .u = omega (arith, c .before .methods .ensures .is) in
-    sym (ap (λ (m : Method). min (m .k) 4) (method-past (now (a .tables)) (a .u) past))
+    sym (ap (λ (m : Method). min (m .k) (layout .names)) (method-past (now (a .tables)) (a .u) past))
 
 k-requires : tie.Need-k-requires
 k-requires c κs = search needs
