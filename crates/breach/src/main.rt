@@ -1,22 +1,15 @@
 // The breach program: a text on standard input, the breach of a declaration on standard output if the text is refused for one, and
 // nothing else there.
 use libc::STDIN_FILENO;
-use libc::STDOUT_FILENO;
-
-fn print(page: &[u8], count: usize) {
-    if count <= page.len() {
-        io::write_all(STDOUT_FILENO, &page[..count]);
-    }
-}
 
 // Where a read fails the text is not known, and nothing is printed.
 fn main() {
     let mut text = [0u8; session::TEXT_ROOM];
-    let input = input::read_all(STDIN_FILENO, &mut text);
+    let input = streams::read_all(STDIN_FILENO, &mut text);
     if input.failed {
         return;
     }
     let mut page = [0u8; session::BREACH_LENGTH];
     let count = session::breach(&text[..input.count], &mut page);
-    print(&page, count);
+    streams::print(&page, count);
 }

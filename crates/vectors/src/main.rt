@@ -1,16 +1,10 @@
 // Grades each text that an argument names: writes the name, then the session's lines.
 use libc::STDOUT_FILENO;
 
-fn print(page: &[u8], count: usize) {
-    if count <= page.len() {
-        io::write_all(STDOUT_FILENO, &page[..count]);
-    }
-}
-
 fn grade_text(text: &[u8]) {
     let mut page = [0u8; session::LONGEST_SESSION];
     let count = session::session(text, &mut page);
-    print(&page, count);
+    streams::print(&page, count);
 }
 
 fn grade_file(name: &[u8]) {
@@ -20,7 +14,7 @@ fn grade_file(name: &[u8]) {
         return;
     }
     let mut text = io::large_buffer();
-    let input = input::read_all(from, &mut text);
+    let input = streams::read_all(from, &mut text);
     if input.failed {
         os::fail(name);
         libc::close(from);

@@ -1,4 +1,4 @@
-// Reading a descriptor to its end. Only a read of 0 bytes ends an input: where a read fails it is unknown what else there was.
+// What programs read and write. Only a read of 0 bytes ends an input: where a read fails it is unknown what else there was.
 ghost use Rattle.io.specs.Counts.{Counts};
 
 // What came of it: how many bytes were put at the start of the buffer, and whether a read failed after them.
@@ -30,5 +30,12 @@ pub fn read_all(fd: i32, buffer: &mut [u8]) -> Input
     Input {
         count: done,
         failed: false,
+    }
+}
+
+// Writes the front of a page to standard output; nothing where the page has fewer bytes. That it arrived no contract can say.
+pub fn print(page: &[u8], count: usize) {
+    if count <= page.len() {
+        io::write_all(libc::STDOUT_FILENO, &page[..count]);
     }
 }

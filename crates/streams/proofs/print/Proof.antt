@@ -1,11 +1,14 @@
--- `breach::print` writes a part of the page: the count lies within it.
+-- `print` writes a part of the page: the count lies within it.
 -- Assumes nothing.
 use mathlib.Core.Path.{sym}
 use native.Mathlib.Omega.{arith}
 use lib.Seq.{length-take-le}
 use borrow.Author.Needs.{needs}
-use Rattle.breach.proofs.print.Statement.{statement}
-use Rattle.breach.proofs.print.Tie as tie
+use Rattle.streams.proofs.print.Statement.{statement}
+use Rattle.streams.proofs.print.Tie as tie
+use Rattle.streams.proofs.print.Reads as reads
+use Rattle.streams.proofs.print.Lts as lts
+use Rattle.io.proofs.write_all.Reads as write-all-reads
 
 slice-aggregate-write-all : tie.Need-slice-aggregate-write-all
 slice-aggregate-write-all c = sym (length-take-le _ _ (omega arith))

@@ -1,4 +1,4 @@
--- `input::read_all` meets its contract: what was read never passes the buffer's end, and each turn leaves less room.
+-- `read_all` meets its contract: what was read never passes the buffer's end, and each turn leaves less room.
 -- Assumes nothing.
 use Prim.Native.Nat.{_≤_, _-_}
 use mathlib.Core.Path.{_≡_, sym}
@@ -6,8 +6,8 @@ use lib.ListN.{length}
 use lib.Seq.{length-take-le}
 use native.Mathlib.Omega.{arith}
 use borrow.Author.Needs.{needs}
-use Rattle.input.proofs.read_all.Statement.{statement}
-use Rattle.input.proofs.read_all.Tie as tie
+use Rattle.streams.proofs.read_all.Statement.{statement}
+use Rattle.streams.proofs.read_all.Tie as tie
 
 abbrev Inv-loop : tie.InvT-loop
 Inv-loop fd buffer₀ done₀ buffer done = (length buffer ≡ length buffer₀) × (done ≤ length buffer)
