@@ -1,6 +1,6 @@
 // The breach of a declaration: the declared grade and the body's own, where refusal 7 names kind 1.
 use crate::frames_of::low;
-use crate::writing::copy;
+use crate::writing::hand_out;
 use crate::writing::put_line;
 use checker::Root;
 use checker::Verdict;
@@ -81,9 +81,6 @@ pub fn breach(text: &[u8], out: &mut [u8]) -> usize
 {
     let mut page = [0u8; BREACH_LENGTH];
     let n = print_breach(text, &mut page);
-    if out.len() < n {
-        return n;
-    }
-    copy(&page, n, out);
+    hand_out(&page, n, out);
     n
 }

@@ -10,7 +10,7 @@ use frames::layout::MOST_METHODS;
 use frames::layout::MOST_TEXT;
 use frames_of::put_accepted;
 use frames_of::put_refusal;
-use writing::copy;
+use writing::hand_out;
 ghost use mathlib.Core.Path.{_≡_};
 ghost use Prim.Native.Nat.{_≤_};
 ghost use lib.ListN.{length};
@@ -61,9 +61,6 @@ pub fn session(text: &[u8], out: &mut [u8]) -> usize
 {
     let mut page = [0u8; LONGEST_SESSION];
     let n = print(text, &mut page);
-    if out.len() < n {
-        return n;
-    }
-    copy(&page, n, out);
+    hand_out(&page, n, out);
     n
 }

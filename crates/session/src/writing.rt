@@ -5,7 +5,7 @@ ghost use Prim.Native.Nat.{_+_, _*_, _≤_, _<_};
 ghost use lib.ListN.{length, take};
 ghost use Rattle.lines.specs.Lines.{newline};
 ghost use Rattle.session.specs.Writing.{hexDigit, digitsOf, lineOf};
-ghost use Rattle.session.specs.Page.{putAt};
+ghost use Rattle.session.specs.Page.{putAt, printed};
 
 const NEWLINE: u8 = 10;
 
@@ -61,7 +61,7 @@ pub(crate) fn put_line(frame: &[u8], page: &mut [u8]) -> usize
 }
 
 // The first n bytes of a page, at the front of a buffer.
-pub(crate) fn copy(page: &[u8], n: usize, out: &mut [u8])
+fn copy(page: &[u8], n: usize, out: &mut [u8])
     requires { ⌜ (n ≤ length (now page)) × (n ≤ length (now out)) ⌝ }
     ensures { λ _. ⌜ now (out .exit) ≡ putAt (now (out .entry)) 0 (take n (now (page .entry))) ⌝ }
 {
@@ -70,4 +70,15 @@ pub(crate) fn copy(page: &[u8], n: usize, out: &mut [u8])
         out[i] = page[i];
         i = i + 1;
     }
+}
+
+// The first n bytes of a page, handed out: at the front of a buffer that has room for them. A buffer that has not is left as it was.
+pub(crate) fn hand_out(page: &[u8], n: usize, out: &mut [u8])
+    requires { ⌜ n ≤ length (now page) ⌝ }
+    ensures { λ _. ⌜ now (out .exit) ≡ printed (take n (now (page .entry))) (now (out .entry)) ⌝ }
+{
+    if out.len() < n {
+        return;
+    }
+    copy(page, n, out);
 }

@@ -150,10 +150,9 @@ put-behind d at s t page after place end room d₁ e₁ e₂ d₂ = (
   omega (arith, length-append s t),
 )
 
--- a page's front, copied to the front of a buffer that has room for it
-pub copied : (page page′ s old after : List ℕ) (n : ℕ) → n ≡ length s → page′ ≡ putAt page 0 s → n ≤ length old → after ≡ putAt old 0 (take n page′)
-    → after ≡ printed s old
-copied page page′ s old after n long put room e =
+-- a page's front, handed out
+pub handed-out : (page page′ s old after : List ℕ) (n : ℕ) → n ≡ length s → page′ ≡ putAt page 0 s → after ≡ printed (take n page′) old → after ≡ printed s old
+handed-out page page′ s old after n long put e =
     e
-    ∙ (ap (putAt old 0) (ap (λ (l : List ℕ). take n l) put ∙ (ap (λ (m : ℕ). take m (putAt page 0 s)) long ∙ take-put page s))
-    ∙ printed-room s old (omega arith))
+    ∙ ap (λ (l : List ℕ). printed l old)
+    (ap (λ (l : List ℕ). take n l) put ∙ (ap (λ (m : ℕ). take m (putAt page 0 s)) long ∙ take-put page s))
