@@ -1,10 +1,13 @@
 /* The proved checker of atomicity, for C.
  *
  * A program comes as a text of frames. Each method is graded for each set of its lock names that its caller may hold:
- * const 0, mover 1, atomic 2, cmpd 3 or error 4. Link with libexports.a (`rt staticlib exports`).
+ * const 0, mover 1, atomic 2, cmpd 3 or error 4. `harness/install PREFIX` installs this header, libikhzorvan.a and a
+ * pkg-config file: `cc program.c $(pkg-config --cflags --libs ikhzorvan)`.
  *
- * Each pointer must be good for as many bytes as the length after it says. No two of them may overlap, and none may be
- * NULL, not even before a length of 0. */
+ * Each pointer must be good for as many bytes as the length after it says, and no two of them may overlap. Before a length of
+ * 0 any pointer will do, NULL too: nothing is read or written there.
+ *
+ * Nothing is kept between calls and nothing allocated, so calls may run on several threads at once. */
 #ifndef IKHZORVAN_H
 #define IKHZORVAN_H
 
@@ -25,20 +28,27 @@ extern "C" {
 /* The longest session: the answer frame, and 64 methods with 16 grades each. */
 #define IKHZORVAN_LONGEST_SESSION 2505
 
-/* What ikhzorvan_grade returns. Lines count from 1. */
+/* How many bytes of stack are enough for a call of either function, whatever the text. A thread that calls must have as many
+ * left: the main thread has, and so has a thread of glibc unless it is asked for less; a thread of musl has not. It is measured
+ * and not proved: on x86-64 no call needs more than two thirds of it. */
+#define IKHZORVAN_STACK 524288
+
+/* What ikhzorvan_grade returns. The names are those that Rattle's `checker::Verdict`, the wrapper for Rust and README have. Lines
+ * count from 1. */
 enum {
-    IKHZORVAN_ACCEPTED = 0,      /* the answer holds the lowest grades that meet every constraint */
-    IKHZORVAN_ANSWER_LENGTH = 1, /* the answer is not 1,024 bytes long */
-    IKHZORVAN_TEXT_TOO_LONG = 2, /* the text is longer than 32,768 bytes */
-    IKHZORVAN_DIGITS = 3,        /* the line is empty, has a byte that is no digit or an odd count of digits, or lacks its
-                                    0A */
-    IKHZORVAN_FRAME = 4,         /* the frame is not of the kind due or of wrong length, the text ended early, or this is a
-                                    line too many */
-    IKHZORVAN_VALUE = 5,         /* a value is out of its range, or a byte that must be 00 isn't */
-    IKHZORVAN_NAMING = 6,        /* node counts don't total the header's, or a child, field, method or lock name cannot be
-                                    named here */
-    IKHZORVAN_BROKEN = 7,        /* the text can be read, and its lowest grades break a constraint */
-    IKHZORVAN_BAD_RECORD = 255   /* the record is not 11 bytes long; nothing at all was written */
+    IKHZORVAN_ACCEPTED = 0,     /* the answer holds the lowest grades that meet every constraint */
+    IKHZORVAN_WRONG_LENGTH = 1, /* the answer is not 1,024 bytes long */
+    IKHZORVAN_OVERLONG = 2,     /* the text is longer than 32,768 bytes */
+    IKHZORVAN_MALFORMED = 3,    /* the line is empty, has a byte that is no digit or an odd count of digits, or lacks its 0A */
+    IKHZORVAN_MISPLACED = 4,    /* the frame is not of the kind due or of wrong length, the text ended early, or this is a
+                                   line too many */
+    IKHZORVAN_OUT_OF_RANGE = 5, /* a value is out of its range, or a byte that must be 00 isn't */
+    IKHZORVAN_UNLINKED = 6,     /* node counts don't total the header's, or a child, field, method or lock name cannot be
+                                   named here */
+    IKHZORVAN_BROKEN = 7,       /* the text can be read, and its lowest grades break a constraint */
+
+    IKHZORVAN_BAD_RECORD = 255  /* no verdict on the text, and of C alone: the record is not 11 bytes long; nothing at all
+                                   was written */
 };
 
 /* The places of a record. Two-byte numbers are high byte first, and numbers that don't apply are 0. */
@@ -70,7 +80,8 @@ uint8_t ikhzorvan_grade(const uint8_t *text, size_t text_len, uint8_t *answer, s
 
 /* Writes the bytes that the grading program prints for a text, and returns how many they are.
  *
- * If `out` is shorter than that, nothing is written. Bytes of `out` past the session are untouched. */
+ * If `out` is shorter than that, nothing is written, and the needed length is returned all the same: call with NULL and 0 to
+ * ask for it. Bytes of `out` past the session are untouched. */
 size_t ikhzorvan_session(const uint8_t *text, size_t text_len, uint8_t *out, size_t out_len);
 
 #ifdef __cplusplus

@@ -1,26 +1,38 @@
 //! Finds the proved checker's archive and links it, where the feature `engine` asks for it.
 
 use std::env;
-use std::path::{Path, PathBuf};
+use std::path::PathBuf;
+use std::process::Command;
 
-/// Names another folder than the repository's for the archive.
+/// Names the folder of the archive. Without it pkg-config is asked.
 const FOLDER: &str = "IKHZORVAN_ARCHIVE_DIR";
 
 fn main() {
-    println!("cargo::rerun-if-env-changed={FOLDER}");
+    for variable in [FOLDER, "PKG_CONFIG_PATH"] {
+        println!("cargo::rerun-if-env-changed={variable}");
+    }
     if env::var_os("CARGO_FEATURE_ENGINE").is_none() {
         return;
     }
-    let folder = match env::var_os(FOLDER) {
-        Some(folder) => PathBuf::from(folder),
-        None => Path::new(&env::var_os("CARGO_MANIFEST_DIR").expect("cargo sets it")).join("../../target/staticlib"),
+    let Some(folder) = env::var_os(FOLDER).map(PathBuf::from).or_else(installed) else {
+        println!(
+            "cargo::error={FOLDER} is not set and pkg-config knows no ikhzorvan: `harness/install PREFIX` installs it"
+        );
+        return;
     };
-    let archive = folder.join("libexports.a");
+    let archive = folder.join("libikhzorvan.a");
     println!("cargo::rerun-if-changed={}", archive.display());
     if !archive.exists() {
-        println!("cargo::error=no {}: `rt staticlib exports` at the repository's top builds it", archive.display());
+        println!("cargo::error=no {}: `harness/install PREFIX` puts it into PREFIX/lib", archive.display());
         return;
     }
     println!("cargo::rustc-link-search=native={}", folder.display());
-    println!("cargo::rustc-link-lib=static=exports");
+    println!("cargo::rustc-link-lib=static=ikhzorvan");
+}
+
+/// The folder that pkg-config gives.
+fn installed() -> Option<PathBuf> {
+    let said = Command::new("pkg-config").args(["--variable=libdir", "ikhzorvan"]).output().ok()?;
+    let folder = String::from_utf8(said.stdout).ok()?;
+    said.status.success().then(|| PathBuf::from(folder.trim()))
 }

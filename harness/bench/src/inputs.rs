@@ -1,11 +1,11 @@
 //! What is measured.
 
 use differential::compare::Expected;
+use ikhzorvan::{Accepted, Verdict, ANSWER_LEN, LONGEST_TEXT};
 use texts::grid::Grid;
 use texts::program::Program;
 use texts::random::{undeclared, Shape};
 use texts::{ring, Rng};
-use verdict::{Accepted, Verdict, ANSWER_LEN, LONGEST_TEXT};
 
 /// Which of the two functions is called.
 #[derive(Clone, Copy, PartialEq, Eq)]

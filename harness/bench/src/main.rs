@@ -7,8 +7,8 @@ mod inputs;
 mod measure;
 
 use differential::graders::{self, Grader};
+use ikhzorvan::{ANSWER_LEN, LONGEST_SESSION, RECORD_LEN};
 use inputs::{Call, Input};
-use verdict::{ANSWER_LEN, LONGEST_SESSION, RECORD_LEN};
 
 fn main() {
     let graders = graders::linked();

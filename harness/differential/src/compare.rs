@@ -1,7 +1,7 @@
 //! Holds a grader against the oracle on one text: what is returned, and every byte that could have been written.
 
 use crate::graders::{laid_out, recorded, Grader};
-use verdict::{Refusal, Verdict, ANSWER_LEN, RECORD_LEN};
+use ikhzorvan::{Refusal, Verdict, ANSWER_LEN, RECORD_LEN};
 
 /// What the oracle says of a text.
 pub struct Expected {
@@ -21,7 +21,7 @@ impl Expected {
     fn grade(&self, answer: &mut [u8], record: &mut [u8]) -> u8 {
         recorded(record, || {
             if answer.len() != ANSWER_LEN {
-                return Verdict::Refused(Refusal::AnswerLength);
+                return Verdict::Refused(Refusal::WrongLength);
             }
             if let Verdict::Accepted(_) = self.verdict {
                 answer.copy_from_slice(&self.answer);

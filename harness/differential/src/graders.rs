@@ -1,8 +1,8 @@
 //! The graders that are compared, each behind the two functions of `include/ikhzorvan.h`.
 
 use crate::bridge::Bridge;
+use ikhzorvan::{Verdict, RECORD_LEN};
 use rounds::Way;
-use verdict::{Verdict, RECORD_LEN};
 
 /// What grading returns where the record is not 11 bytes long.
 pub const BAD_RECORD: u8 = 255;

@@ -1,10 +1,10 @@
 //! The three laws, by test on random accepted programs.
 
 use crate::graders::Grader;
+use ikhzorvan::{ANSWER_LEN, RECORD_LEN};
 use std::fmt;
 use texts::random::{declare, undeclared, Declare, Shape};
 use texts::{Program, Rng};
-use verdict::{ANSWER_LEN, RECORD_LEN};
 
 type Answer = [u8; ANSWER_LEN];
 

@@ -3,9 +3,9 @@
 use crate::compare::{difference, difference_from, Expected, WrongLengths};
 use crate::graders::Grader;
 use crate::tally::Tally;
+use ikhzorvan::{ANSWER_LEN, RECORD_LEN};
 use texts::shrink::shrunk;
 use texts::{damage, limits, random, ring, Rng};
-use verdict::{ANSWER_LEN, RECORD_LEN};
 
 /// The text of a case: the same seed and number give the same text.
 pub fn text(rng: &mut Rng) -> Vec<u8> {

@@ -1,8 +1,8 @@
 //! Counts what the random texts have reached, so that a run that reaches too little fails.
 
+use ikhzorvan::{Kind, Refusal, Verdict};
 use std::fmt;
 use texts::program::{op, Method, Node, Program, NO_NAME};
-use verdict::{Kind, Refusal, Verdict};
 
 /// A thing to be reached, with how often it must be and how often it was.
 struct Line {
@@ -78,12 +78,12 @@ impl Tally {
 
     fn take_refusal(&mut self, refusal: Refusal) {
         let what = match refusal {
-            Refusal::AnswerLength => return,
-            Refusal::TextTooLong => "refusal 2",
-            Refusal::Digits { .. } => "refusal 3",
-            Refusal::Frame { .. } => "refusal 4",
-            Refusal::Value { .. } => "refusal 5",
-            Refusal::Naming { .. } => "refusal 6",
+            Refusal::WrongLength => return,
+            Refusal::Overlong => "refusal 2",
+            Refusal::Malformed { .. } => "refusal 3",
+            Refusal::Misplaced { .. } => "refusal 4",
+            Refusal::OutOfRange { .. } => "refusal 5",
+            Refusal::Unlinked { .. } => "refusal 6",
             Refusal::Broken(broken) => {
                 self.count_if("refusal 7, held set not 0", broken.held != 0);
                 match broken.kind {

@@ -1,9 +1,9 @@
 //! The vectors: the texts that the gate runs, and what the grading program must print for each.
 
 use crate::graders::Grader;
+use ikhzorvan::LONGEST_SESSION;
 use std::path::Path;
 use std::{fs, io};
-use verdict::LONGEST_SESSION;
 
 /// The gate's crate: `args` names the texts in `data/`; `stdout` has each name on a line and then its session's lines.
 const CRATE: &str = concat!(env!("CARGO_MANIFEST_DIR"), "/../../crates/vectors");

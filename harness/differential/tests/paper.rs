@@ -1,9 +1,9 @@
 //! The paper's own cases, by every grader there is: P5 to P8 and P10 to P12 as texts, and each limit.
 
 use differential::graders::{self, Grader};
+use ikhzorvan::{Accepted, Refusal, Verdict, ANSWER_LEN, LONGEST_TEXT, RECORD_LEN};
 use texts::limits;
 use texts::program::{op, Field, Method, Node, Program, NO_NAME};
-use verdict::{Accepted, Refusal, Verdict, ANSWER_LEN, LONGEST_TEXT, RECORD_LEN};
 
 /// Every grader's verdict on a text, which must be the same, with the answer.
 fn graded(text: &[u8]) -> (Verdict, [u8; ANSWER_LEN]) {
@@ -101,12 +101,12 @@ fn four_and_five_locks() {
         Program { fields: Vec::new(), methods: vec![idle_main(), method] }
     };
     assert!(is_accepted(&with_locks(4)));
-    assert_eq!(verdict(&with_locks(5).text()), Verdict::Refused(Refusal::Value { line: 3 }));
+    assert_eq!(verdict(&with_locks(5).text()), Verdict::Refused(Refusal::OutOfRange { line: 3 }));
 }
 
 #[test]
 fn limits_of_the_header() {
-    let past = Verdict::Refused(Refusal::Value { line: 1 });
+    let past = Verdict::Refused(Refusal::OutOfRange { line: 1 });
     let methods = |count: usize| Program { fields: Vec::new(), methods: vec![idle_main(); count] };
     assert!(is_accepted(&methods(64)));
     assert_eq!(verdict(&methods(65).text()), past);
@@ -126,6 +126,6 @@ fn texts_of_the_longest_length_and_one_more() {
         text
     };
     // The header, 1 method and 1,024 nodes come before the line too many.
-    assert_eq!(verdict(&of_len(LONGEST_TEXT)), Verdict::Refused(Refusal::Frame { line: 1027 }));
-    assert_eq!(verdict(&of_len(LONGEST_TEXT + 1)), Verdict::Refused(Refusal::TextTooLong));
+    assert_eq!(verdict(&of_len(LONGEST_TEXT)), Verdict::Refused(Refusal::Misplaced { line: 1027 }));
+    assert_eq!(verdict(&of_len(LONGEST_TEXT + 1)), Verdict::Refused(Refusal::Overlong));
 }

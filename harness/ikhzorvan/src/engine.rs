@@ -5,6 +5,20 @@ use crate::{Accepted, Refusal, Verdict, ANSWER_LEN, LONGEST_SESSION, RECORD_LEN}
 
 /// Grades a text into an answer: entry number h of method m at 16m + h, every other byte 0. A refusal leaves the answer
 /// untouched.
+///
+/// ```
+/// use ikhzorvan::{grade, Refusal, ANSWER_LEN};
+///
+/// // One method, the main, of one node: a plain value.
+/// let text = b"0101000001\n040000010000000000000000000000000000000000\n03000000000000000000000000\n";
+/// let mut answer = [0; ANSWER_LEN];
+/// let accepted = grade(text, &mut answer)?;
+/// assert_eq!((accepted.methods, answer[0]), (1, 0));
+///
+/// let refusal = grade(b"01 01\n", &mut answer).unwrap_err();
+/// assert_eq!(refusal, Refusal::Malformed { line: 1 });
+/// # Ok::<(), Refusal>(())
+/// ```
 pub fn grade(text: &[u8], answer: &mut [u8; ANSWER_LEN]) -> Result<Accepted, Refusal> {
     match grade_into(text, answer) {
         Verdict::Accepted(accepted) => Ok(accepted),
@@ -25,6 +39,12 @@ pub fn grade_into(text: &[u8], answer: &mut [u8]) -> Verdict {
 }
 
 /// What the grading program prints for a text.
+///
+/// ```
+/// let text = b"0101000001\n040000010000000000000000000000000000000000\n03000000000000000000000000\n";
+/// assert_eq!(ikhzorvan::session(text), b"10010000\n11000000\n");
+/// assert_eq!(ikhzorvan::session(b""), b"1F0400010000000000\n");
+/// ```
 pub fn session(text: &[u8]) -> Vec<u8> {
     let mut out = vec![0; LONGEST_SESSION];
     // SAFETY: both slices are good for their length, and borrowed apart from each other.

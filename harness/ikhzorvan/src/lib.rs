@@ -1,21 +1,26 @@
 //! A safe wrapper over the proved checker of atomicity.
 //!
 //! A program comes as a text of frames. Each method is graded for each set of its lock names that its caller may hold:
-//! const 0, mover 1, atomic 2, cmpd 3 or error 4.
+//! const 0, mover 1, atomic 2, cmpd 3 or error 4. `grade` writes the grades of a text, or gives the [`Refusal`] that says why
+//! it has none; `session` gives what the grading program prints.
 //!
-//! ```ignore
-//! let mut answer = [0; ikhzorvan::ANSWER_LEN];
-//! match ikhzorvan::grade(text, &mut answer) {
-//!     Ok(accepted) => println!("{} methods, {} rounds", accepted.methods, accepted.rounds),
-//!     Err(refusal) => println!("refused: {refusal:?}"),
-//! }
-//! ```
+//! Nothing is kept between calls, so they may run on several threads at once. Each needs [`STACK`] bytes of stack.
 //!
-//! The functions need the feature `engine`, which links the checker's archive; without it the crate has the types only.
+//! The functions need the feature `engine`, which is on by default and links `libikhzorvan.a`; `harness/install PREFIX`
+//! installs that. It is looked for in the folder that the environment variable `IKHZORVAN_ARCHIVE_DIR` names (PREFIX/lib),
+//! or where pkg-config says. Without the feature the crate has the types only.
+
+mod verdict;
 
 pub use verdict::{
     Accepted, Broken, Kind, Record, Refusal, Verdict, ANSWER_LEN, LONGEST_SESSION, LONGEST_TEXT, RECORD_LEN,
 };
+
+/// How many bytes of stack are enough for a call of either function, whatever the text. A main thread has more, and so has a
+/// thread of Rust's standard library unless it is asked for less; a thread of musl has less.
+///
+/// This is measured and not proved: no call needs more than two thirds of it.
+pub const STACK: usize = 512 * 1024;
 
 #[cfg(feature = "engine")]
 pub mod raw;

@@ -2,7 +2,7 @@
 
 use crate::grade::{Grade, Held};
 use crate::program::{Method, Program, Table};
-use verdict::{Broken, Kind};
+use ikhzorvan::{Broken, Kind};
 
 /// The first constraint that the tables break.
 pub fn first_broken(program: &Program, tables: &[Table]) -> Option<Broken> {

@@ -2,15 +2,15 @@
 
 use crate::grade::Grade;
 use crate::program::{Access, Call, Field, Fork, Guard, Lock, Method, Node, Program, Table};
-use verdict::Refusal;
+use ikhzorvan::Refusal;
 
 /// What can be wrong with a line. In each line they are looked for in this order.
 #[derive(Clone, Copy, Debug)]
 enum Fault {
-    Digits,
-    Frame,
-    Value,
-    Naming,
+    Malformed,
+    Misplaced,
+    OutOfRange,
+    Unlinked,
 }
 
 /// The kinds of frame, with the byte that each begins with.
@@ -49,10 +49,10 @@ impl<'a> Lines<'a> {
     fn refuse(&self, fault: Fault) -> Refusal {
         let line = self.line;
         match fault {
-            Fault::Digits => Refusal::Digits { line },
-            Fault::Frame => Refusal::Frame { line },
-            Fault::Value => Refusal::Value { line },
-            Fault::Naming => Refusal::Naming { line },
+            Fault::Malformed => Refusal::Malformed { line },
+            Fault::Misplaced => Refusal::Misplaced { line },
+            Fault::OutOfRange => Refusal::OutOfRange { line },
+            Fault::Unlinked => Refusal::Unlinked { line },
         }
     }
 
@@ -62,7 +62,7 @@ impl<'a> Lines<'a> {
         if self.rest.is_empty() {
             return Ok(None);
         }
-        let end = self.rest.iter().position(|&byte| byte == b'\n').ok_or(Fault::Digits)?;
+        let end = self.rest.iter().position(|&byte| byte == b'\n').ok_or(Fault::Malformed)?;
         let digits = &self.rest[..end];
         self.rest = &self.rest[end + 1..];
         bytes_of(digits).map(Some)
@@ -70,10 +70,10 @@ impl<'a> Lines<'a> {
 
     /// Reads the next line as a frame of the kind due, and what `read` makes of the frame's bytes after the kind.
     fn read<T>(&mut self, due: Due, read: impl FnOnce(&[u8]) -> Result<T, Fault>) -> Result<T, Refusal> {
-        let frame = self.next_line().and_then(|line| line.ok_or(Fault::Frame));
+        let frame = self.next_line().and_then(|line| line.ok_or(Fault::Misplaced));
         let value = frame.and_then(|frame| {
             if frame[0] != due as u8 || frame.len() != due.len() {
-                return Err(Fault::Frame);
+                return Err(Fault::Misplaced);
             }
             read(&frame[1..])
         });
@@ -84,7 +84,7 @@ impl<'a> Lines<'a> {
     fn end(&mut self) -> Result<(), Refusal> {
         match self.next_line() {
             Ok(None) => Ok(()),
-            Ok(Some(_)) => Err(self.refuse(Fault::Frame)),
+            Ok(Some(_)) => Err(self.refuse(Fault::Misplaced)),
             Err(fault) => Err(self.refuse(fault)),
         }
     }
@@ -93,7 +93,7 @@ impl<'a> Lines<'a> {
 /// The bytes of a line without its 0A, two digits a byte.
 fn bytes_of(digits: &[u8]) -> Result<Vec<u8>, Fault> {
     if digits.is_empty() || digits.len() % 2 == 1 {
-        return Err(Fault::Digits);
+        return Err(Fault::Malformed);
     }
     let pair = |pair: &[u8]| Ok(digit(pair[0])? * 16 + digit(pair[1])?);
     digits.chunks(2).map(pair).collect()
@@ -104,7 +104,7 @@ fn digit(byte: u8) -> Result<u8, Fault> {
     match byte {
         b'0'..=b'9' => Ok(byte - b'0'),
         b'A'..=b'F' => Ok(byte - b'A' + 10),
-        _ => Err(Fault::Digits),
+        _ => Err(Fault::Malformed),
     }
 }
 
@@ -115,7 +115,7 @@ fn two_bytes(bytes: &[u8]) -> usize {
 
 /// A value is wanted to be so, else refusal 5.
 fn wanted(so: bool) -> Result<(), Fault> {
-    so.then_some(()).ok_or(Fault::Value)
+    so.then_some(()).ok_or(Fault::OutOfRange)
 }
 
 struct Header {
@@ -140,7 +140,7 @@ fn field(bytes: &[u8]) -> Result<Field, Fault> {
         1 => Guard::Guarded,
         2 => Guard::WriteGuarded,
         3 => Guard::None,
-        _ => return Err(Fault::Value),
+        _ => return Err(Fault::OutOfRange),
     };
     Ok(Field { wide: bytes[0] == 1, guard })
 }
@@ -160,7 +160,7 @@ fn signature(bytes: &[u8], is_main: bool) -> Result<Signature, Fault> {
     wanted(bytes[3] <= 1)?;
     let is_declared = bytes[3] == 1;
     let grades: Table =
-        bytes[4..].iter().map(|&grade| Grade::of_number(grade).ok_or(Fault::Value)).collect::<Result<_, _>>()?;
+        bytes[4..].iter().map(|&grade| Grade::of_number(grade).ok_or(Fault::OutOfRange)).collect::<Result<_, _>>()?;
     // "Grades after the 2^k-th, and all 16 if undeclared, are 00."
     let (own, rest) = grades.split_at(if is_declared { 1 << names } else { 0 });
     wanted(rest.iter().all(|&grade| grade == Grade::Const))?;
@@ -200,7 +200,7 @@ fn node_frame(bytes: &[u8]) -> Result<NodeFrame, Fault> {
         index: bytes[7],
         locks: [8, 9, 10, 11].map(|at| bytes[at]),
     };
-    let (children, index, locks) = listed(frame.op).ok_or(Fault::Value)?;
+    let (children, index, locks) = listed(frame.op).ok_or(Fault::OutOfRange)?;
     // "Operands that an op doesn't list are 00."
     wanted(frame.children[children..].iter().all(|&child| child == 0))?;
     wanted(index || frame.index == 0)?;
@@ -222,7 +222,7 @@ impl Body<'_> {
     /// Takes in one more node.
     fn take(&mut self, bytes: &[u8]) -> Result<(), Fault> {
         let frame = node_frame(bytes)?;
-        let node = self.node(&frame).ok_or(Fault::Naming)?;
+        let node = self.node(&frame).ok_or(Fault::Unlinked)?;
         self.trees.push(Some(Box::new(node)));
         Ok(())
     }
@@ -315,7 +315,7 @@ fn signatures(lines: &mut Lines, header: &Header) -> Result<Vec<Signature>, Refu
             let total = signatures.iter().map(|method| method.nodes).sum::<usize>() + next.nodes;
             // "Node counts don't total the header's (at the last method line)."
             if number + 1 == header.methods && total != header.nodes {
-                return Err(Fault::Naming);
+                return Err(Fault::Unlinked);
             }
             Ok(next)
         })?;
@@ -326,8 +326,8 @@ fn signatures(lines: &mut Lines, header: &Header) -> Result<Vec<Signature>, Refu
 
 /// The program of a text, or refusal 2 to 6.
 pub fn read(text: &[u8]) -> Result<Program, Refusal> {
-    if text.len() > verdict::LONGEST_TEXT {
-        return Err(Refusal::TextTooLong);
+    if text.len() > ikhzorvan::LONGEST_TEXT {
+        return Err(Refusal::Overlong);
     }
     let lines = &mut Lines::of(text);
     let header = lines.read(Due::Header, header)?;

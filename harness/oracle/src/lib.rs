@@ -12,8 +12,8 @@ mod program;
 pub use grade::Grade;
 pub use program::Table;
 
+use ikhzorvan::{Accepted, Refusal, Verdict, ANSWER_LEN};
 use program::Program;
-use verdict::{Accepted, Refusal, Verdict, ANSWER_LEN};
 
 /// All that is to be known of a text that can be read.
 #[derive(Clone, Debug)]
@@ -44,7 +44,7 @@ fn count(program: &Program) -> u8 {
 /// Grades a text into a lent answer, which a refusal leaves untouched.
 pub fn grade(text: &[u8], answer: &mut [u8]) -> Verdict {
     if answer.len() != ANSWER_LEN {
-        return Verdict::Refused(Refusal::AnswerLength);
+        return Verdict::Refused(Refusal::WrongLength);
     }
     match graded(text) {
         Err(refusal) => Verdict::Refused(refusal),
@@ -84,8 +84,8 @@ fn refusal_line(refusal: Refusal) -> String {
     let (method, kind, node, held) = match refusal {
         Refusal::Broken(broken) => {
             let node = match broken.kind {
-                verdict::Kind::Fork { node } => node,
-                verdict::Kind::Declared | verdict::Kind::Main => 0,
+                ikhzorvan::Kind::Fork { node } => node,
+                ikhzorvan::Kind::Declared | ikhzorvan::Kind::Main => 0,
             };
             (broken.method, broken.kind.number(), node, broken.held)
         }

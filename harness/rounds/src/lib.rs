@@ -6,9 +6,9 @@ mod read;
 mod session;
 mod solve;
 
+use ikhzorvan::{Accepted, Refusal, Verdict, ANSWER_LEN};
 use read::Program;
 use solve::Tables;
-use verdict::{Accepted, Refusal, Verdict, ANSWER_LEN};
 
 pub use session::session;
 pub use solve::Way;
@@ -16,7 +16,7 @@ pub use solve::Way;
 /// Grades a text into a lent answer, which a refusal leaves untouched.
 pub fn grade(way: Way, text: &[u8], answer: &mut [u8]) -> Verdict {
     if answer.len() != ANSWER_LEN {
-        return Verdict::Refused(Refusal::AnswerLength);
+        return Verdict::Refused(Refusal::WrongLength);
     }
     match accepted(way, text) {
         Err(refusal) => Verdict::Refused(refusal),

@@ -1,7 +1,7 @@
 //! From text to program.
 
+use ikhzorvan::{Refusal, LONGEST_TEXT};
 use std::ops::Range;
-use verdict::{Refusal, LONGEST_TEXT};
 
 pub struct Program {
     pub methods: Vec<Method>,
@@ -65,7 +65,7 @@ impl Lines<'_> {
         if rest.is_empty() {
             return Ok(0);
         }
-        let malformed = Refusal::Digits { line: self.line };
+        let malformed = Refusal::Malformed { line: self.line };
         let end = rest.iter().position(|&b| b == b'\n').ok_or(malformed)?;
         if end == 0 || end % 2 != 0 {
             return Err(malformed);
@@ -103,14 +103,14 @@ impl Lines<'_> {
     }
 
     fn misframed(&self) -> Refusal {
-        Refusal::Frame { line: self.line }
+        Refusal::Misplaced { line: self.line }
     }
 
     fn check_value(&self, ok: bool) -> Result<(), Refusal> {
         if ok {
             Ok(())
         } else {
-            Err(Refusal::Value { line: self.line })
+            Err(Refusal::OutOfRange { line: self.line })
         }
     }
 
@@ -118,7 +118,7 @@ impl Lines<'_> {
         if ok {
             Ok(())
         } else {
-            Err(Refusal::Naming { line: self.line })
+            Err(Refusal::Unlinked { line: self.line })
         }
     }
 }
@@ -133,7 +133,7 @@ fn digit(byte: u8) -> Option<u8> {
 
 pub fn program(text: &[u8]) -> Result<Program, Refusal> {
     if text.len() > LONGEST_TEXT {
-        return Err(Refusal::TextTooLong);
+        return Err(Refusal::Overlong);
     }
     let mut lines = Lines { text, at: 0, line: 0, frame: [0; 21] };
     let (method_count, field_count, node_count) = header(&mut lines)?;
@@ -218,7 +218,7 @@ fn op(
         7 => (1, false, 0),
         8 => (1, true, 4),
         9 => (1, true, 0),
-        _ => return Err(Refusal::Value { line: lines.line }),
+        _ => return Err(Refusal::OutOfRange { line: lines.line }),
     };
     lines.check_value((children > 0 || x == 0) && (children > 1 || y == 0) && (children > 2 || z == 0))?;
     lines.check_value(lists_u || u == 0)?;

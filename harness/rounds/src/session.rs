@@ -1,7 +1,7 @@
 //! What the grading program prints.
 
 use crate::{accepted, Way};
-use verdict::{Refusal, Verdict, LONGEST_SESSION};
+use ikhzorvan::{Refusal, Verdict, LONGEST_SESSION};
 
 const DIGITS: &[u8; 16] = b"0123456789ABCDEF";
 

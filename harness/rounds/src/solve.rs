@@ -1,7 +1,7 @@
 //! Tables round by round, and the constraints.
 
 use crate::read::{Field, Method, Node, Op, Program};
-use verdict::{Broken, Kind};
+use ikhzorvan::{Broken, Kind};
 
 /// A grade for each held set of a method's names; entries past 2^k are 0.
 pub type Table = [u8; 16];

@@ -67,7 +67,7 @@ pub fn fill(method: &mut Method, nodes: usize, final_field: u8) {
 #[cfg(test)]
 mod tests {
     use super::*;
-    use verdict::{Accepted, Verdict};
+    use ikhzorvan::{Accepted, Verdict};
 
     #[test]
     fn a_grid_has_the_size_and_the_rounds_that_it_says() {

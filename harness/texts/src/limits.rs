@@ -3,7 +3,7 @@
 use crate::program::{op, Field, Method, Node, Program, NO_NAME};
 use crate::random::{undeclared, Shape};
 use crate::rng::Rng;
-use verdict::LONGEST_TEXT;
+use ikhzorvan::LONGEST_TEXT;
 
 /// A text at a limit or just past it.
 pub fn text(rng: &mut Rng) -> Vec<u8> {

@@ -105,7 +105,7 @@ fn more(rng: &mut Rng, method: &mut Method, methods: usize) {
 #[cfg(test)]
 mod tests {
     use super::*;
-    use verdict::{Accepted, Verdict};
+    use ikhzorvan::{Accepted, Verdict};
 
     fn rounds(program: Program) -> usize {
         match oracle::graded(&program.text()).expect("readable").verdict {

@@ -2,6 +2,8 @@
 //!
 //! A [`Verdict`] and its [`Record`] say the same thing, once for people and once in bytes.
 
+use std::fmt;
+
 /// How many bytes an answer has: entry number h of method m stands at 16m + h, every other byte is 0.
 pub const ANSWER_LEN: usize = 1024;
 
@@ -36,24 +38,63 @@ pub struct Accepted {
     pub rounds: u16,
 }
 
-/// Why a text is refused. Lines count from 1.
+/// Why a text is refused. Lines count from 1. The names are those that Rattle's `checker::Verdict`, the header for C and
+/// README have.
+///
+/// ```
+/// use ikhzorvan::{Broken, Kind, Refusal};
+///
+/// let refusal = Refusal::OutOfRange { line: 3 };
+/// assert_eq!((refusal.number(), refusal.line()), (5, 3));
+/// assert_eq!(refusal.to_string(), "line 3 has a value out of its range, or another byte where 00 is due");
+///
+/// let refusal = Refusal::Broken(Broken { method: 2, kind: Kind::Declared, held: 0b101 });
+/// assert_eq!(refusal.to_string(), "method 2 is graded higher than declared with held {0, 2}");
+/// ```
 #[derive(Clone, Copy, Debug, PartialEq, Eq)]
 pub enum Refusal {
     /// 1: the answer is not 1,024 bytes long.
-    AnswerLength,
+    WrongLength,
     /// 2: the text is longer than 32,768 bytes.
-    TextTooLong,
+    Overlong,
     /// 3: the line is empty, has a byte that is no digit or an odd count of digits, or lacks its 0A.
-    Digits { line: u16 },
+    Malformed { line: u16 },
     /// 4: the frame is not of the kind due or of wrong length, the text ended early, or this is a line too many.
-    Frame { line: u16 },
+    Misplaced { line: u16 },
     /// 5: a value is out of its range, or a byte that must be 00 isn't.
-    Value { line: u16 },
+    OutOfRange { line: u16 },
     /// 6: node counts don't total the header's, or a child, field, method or lock name cannot be named here.
-    Naming { line: u16 },
+    Unlinked { line: u16 },
     /// 7: the text can be read, and this is its first constraint that its lowest grades break.
     Broken(Broken),
 }
+
+impl fmt::Display for Refusal {
+    fn fmt(&self, out: &mut fmt::Formatter) -> fmt::Result {
+        match self {
+            Refusal::WrongLength => write!(out, "the answer is not 1,024 bytes long"),
+            Refusal::Overlong => write!(out, "the text is longer than 32,768 bytes"),
+            Refusal::Malformed { line } => write!(
+                out,
+                "line {line} is empty, has a byte that is no digit (0-9, A-F) or an odd count of digits, or lacks its 0A"
+            ),
+            Refusal::Misplaced { line } => write!(
+                out,
+                "line {line} is not a frame of the kind and length due there, or the text ended before it, or it is one too many"
+            ),
+            Refusal::OutOfRange { line } => {
+                write!(out, "line {line} has a value out of its range, or another byte where 00 is due")
+            }
+            Refusal::Unlinked { line } => write!(
+                out,
+                "line {line} names a child, field, method or lock that it cannot, or the node counts don't total the header's"
+            ),
+            Refusal::Broken(broken) => broken.fmt(out),
+        }
+    }
+}
+
+impl std::error::Error for Refusal {}
 
 /// The first broken constraint of a text.
 #[derive(Clone, Copy, Debug, PartialEq, Eq)]
@@ -63,6 +104,19 @@ pub struct Broken {
     pub kind: Kind,
     /// The lowest held set at which the constraint is broken: bit j says that lock name j is held.
     pub held: u8,
+}
+
+impl fmt::Display for Broken {
+    fn fmt(&self, out: &mut fmt::Formatter) -> fmt::Result {
+        let Broken { method, kind, held } = *self;
+        match kind {
+            Kind::Declared => write!(out, "method {method} is graded higher than declared")?,
+            Kind::Main => write!(out, "method {method}, the main, is graded error")?,
+            Kind::Fork { node } => write!(out, "the method that method {method} forks at node {node} is graded error")?,
+        }
+        let names: Vec<String> = (0..8).filter(|name| held >> name & 1 == 1).map(|name| name.to_string()).collect();
+        write!(out, " with held {{{}}}", names.join(", "))
+    }
 }
 
 /// The three kinds of constraint.
@@ -91,12 +145,12 @@ impl Refusal {
     /// The paper's number of the refusal.
     pub fn number(self) -> u8 {
         match self {
-            Refusal::AnswerLength => 1,
-            Refusal::TextTooLong => 2,
-            Refusal::Digits { .. } => 3,
-            Refusal::Frame { .. } => 4,
-            Refusal::Value { .. } => 5,
-            Refusal::Naming { .. } => 6,
+            Refusal::WrongLength => 1,
+            Refusal::Overlong => 2,
+            Refusal::Malformed { .. } => 3,
+            Refusal::Misplaced { .. } => 4,
+            Refusal::OutOfRange { .. } => 5,
+            Refusal::Unlinked { .. } => 6,
             Refusal::Broken(_) => 7,
         }
     }
@@ -104,10 +158,11 @@ impl Refusal {
     /// The line that refusals 3 to 6 give, and 0 for the others.
     pub fn line(self) -> u16 {
         match self {
-            Refusal::Digits { line } | Refusal::Frame { line } | Refusal::Value { line } | Refusal::Naming { line } => {
-                line
-            }
-            Refusal::AnswerLength | Refusal::TextTooLong | Refusal::Broken(_) => 0,
+            Refusal::Malformed { line }
+            | Refusal::Misplaced { line }
+            | Refusal::OutOfRange { line }
+            | Refusal::Unlinked { line } => line,
+            Refusal::WrongLength | Refusal::Overlong | Refusal::Broken(_) => 0,
         }
     }
 }
@@ -149,12 +204,12 @@ impl Verdict {
         let line = two(1);
         let verdict = match record[0] {
             0 => Verdict::Accepted(Accepted { methods: record[8], rounds: two(9) }),
-            1 => Verdict::Refused(Refusal::AnswerLength),
-            2 => Verdict::Refused(Refusal::TextTooLong),
-            3 => Verdict::Refused(Refusal::Digits { line }),
-            4 => Verdict::Refused(Refusal::Frame { line }),
-            5 => Verdict::Refused(Refusal::Value { line }),
-            6 => Verdict::Refused(Refusal::Naming { line }),
+            1 => Verdict::Refused(Refusal::WrongLength),
+            2 => Verdict::Refused(Refusal::Overlong),
+            3 => Verdict::Refused(Refusal::Malformed { line }),
+            4 => Verdict::Refused(Refusal::Misplaced { line }),
+            5 => Verdict::Refused(Refusal::OutOfRange { line }),
+            6 => Verdict::Refused(Refusal::Unlinked { line }),
             7 => {
                 let kind = match record[4] {
                     1 => Kind::Declared,
@@ -177,10 +232,10 @@ mod tests {
 
     const EACH: [(Verdict, Record); 8] = [
         (Verdict::Accepted(Accepted { methods: 64, rounds: 0x0123 }), [0, 0, 0, 0, 0, 0, 0, 0, 64, 1, 0x23]),
-        (Verdict::Refused(Refusal::AnswerLength), [1, 0, 0, 0, 0, 0, 0, 0, 0, 0, 0]),
-        (Verdict::Refused(Refusal::TextTooLong), [2, 0, 0, 0, 0, 0, 0, 0, 0, 0, 0]),
-        (Verdict::Refused(Refusal::Digits { line: 0x0102 }), [3, 1, 2, 0, 0, 0, 0, 0, 0, 0, 0]),
-        (Verdict::Refused(Refusal::Naming { line: 7 }), [6, 0, 7, 0, 0, 0, 0, 0, 0, 0, 0]),
+        (Verdict::Refused(Refusal::WrongLength), [1, 0, 0, 0, 0, 0, 0, 0, 0, 0, 0]),
+        (Verdict::Refused(Refusal::Overlong), [2, 0, 0, 0, 0, 0, 0, 0, 0, 0, 0]),
+        (Verdict::Refused(Refusal::Malformed { line: 0x0102 }), [3, 1, 2, 0, 0, 0, 0, 0, 0, 0, 0]),
+        (Verdict::Refused(Refusal::Unlinked { line: 7 }), [6, 0, 7, 0, 0, 0, 0, 0, 0, 0, 0]),
         (broken(Kind::Declared, 3), [7, 0, 0, 5, 1, 0, 0, 3, 0, 0, 0]),
         (broken(Kind::Main, 0), [7, 0, 0, 5, 2, 0, 0, 0, 0, 0, 0]),
         (broken(Kind::Fork { node: 0x0203 }, 15), [7, 0, 0, 5, 3, 2, 3, 15, 0, 0, 0]),
@@ -196,6 +251,17 @@ mod tests {
             assert_eq!(verdict.record(), record);
             assert_eq!(Verdict::from_record(&record), Some(verdict));
         }
+    }
+
+    #[test]
+    fn each_broken_constraint_has_its_words() {
+        let words = |kind: Kind, held: u8| Refusal::Broken(Broken { method: 5, kind, held }).to_string();
+        assert_eq!(words(Kind::Declared, 3), "method 5 is graded higher than declared with held {0, 1}");
+        assert_eq!(words(Kind::Main, 0), "method 5, the main, is graded error with held {}");
+        assert_eq!(
+            words(Kind::Fork { node: 7 }, 9),
+            "the method that method 5 forks at node 7 is graded error with held {0, 3}"
+        );
     }
 
     #[test]

@@ -1,0 +1,71 @@
+//! One vocabulary: the refusals have the same names and numbers in Rattle, C, Rust and README, and the header's lengths are the
+//! wrapper's.
+
+use ikhzorvan::{Verdict, ANSWER_LEN, LONGEST_SESSION, LONGEST_TEXT, RECORD_LEN, STACK};
+
+const CHECKER: &str = include_str!("../../../crates/checker/src/lib.rt");
+const HEADER: &str = include_str!("../../../include/ikhzorvan.h");
+const README: &str = include_str!("../../../README.md");
+
+/// The names of Rust by number, from `Accepted` on.
+fn names() -> Vec<String> {
+    let name = |number: u8| {
+        // The kind of a refusal that is no 7 is 0.
+        let kind = u8::from(number == 7);
+        let verdict = Verdict::from_record(&[number, 0, 0, 0, kind, 0, 0, 0, 0, 0, 0]).expect("a verdict's record");
+        let said = match verdict {
+            Verdict::Accepted(accepted) => format!("{accepted:?}"),
+            Verdict::Refused(refusal) => format!("{refusal:?}"),
+        };
+        said.split(|byte: char| !byte.is_alphanumeric()).next().expect("a name").to_string()
+    };
+    (0..8).map(name).collect()
+}
+
+/// `Malformed` of `MALFORMED`, `OutOfRange` of `OUT_OF_RANGE`.
+fn camel_case(name: &str) -> String {
+    name.split('_').map(|word| word[..1].to_string() + &word[1..].to_lowercase()).collect()
+}
+
+#[test]
+fn rattle_has_the_names_of_rust() {
+    let (_, rest) = CHECKER.split_once("pub enum Verdict {\n").expect("the enum");
+    let (cases, _) = rest.split_once("\n}").expect("its end");
+    let outermost = cases.lines().filter_map(|line| line.strip_prefix("    "));
+    let cases = outermost.filter(|line| line.starts_with(|byte: char| byte.is_ascii_uppercase()));
+    let found: Vec<_> = cases.map(|line| line.split(|byte: char| !byte.is_alphanumeric()).next().unwrap()).collect();
+    assert_eq!(found, names());
+}
+
+#[test]
+fn c_has_the_names_of_rust() {
+    for (number, name) in names().iter().enumerate() {
+        let is_it = |line: &&str| line.contains(&format!(" = {number},"));
+        let line = HEADER.lines().find(is_it).expect("the number's first place");
+        let found = line.trim().strip_prefix("IKHZORVAN_").and_then(|line| line.split(' ').next()).expect("a name");
+        assert_eq!(camel_case(found), *name);
+    }
+    assert!(HEADER.contains("IKHZORVAN_BAD_RECORD = 255 "));
+}
+
+#[test]
+fn c_has_the_lengths_of_rust() {
+    for (name, value) in [
+        ("ANSWER_LEN", ANSWER_LEN),
+        ("LONGEST_TEXT", LONGEST_TEXT),
+        ("LONGEST_SESSION", LONGEST_SESSION),
+        ("STACK", STACK),
+    ] {
+        assert!(HEADER.contains(&format!("\n#define IKHZORVAN_{name} {value}\n")), "{name}");
+    }
+    assert!(HEADER.contains(&format!("IKHZORVAN_RECORD_LEN = {RECORD_LEN}\n")));
+}
+
+#[test]
+fn readme_has_the_names_of_rust() {
+    let rows = README.lines().filter_map(|line| line.strip_prefix("| "));
+    for (number, name) in names().iter().enumerate().skip(1) {
+        let is_it = |row: &&str| row.starts_with(&format!("{number}")) && row.contains(&format!("| `{name}` |"));
+        assert!(rows.clone().any(|row| is_it(&row)), "{number}, {name}");
+    }
+}
