@@ -5,5 +5,5 @@ pub mod compare;
 pub mod graders;
 pub mod laws;
 pub mod random;
-mod tally;
+pub mod tally;
 pub mod vectors;

@@ -3,16 +3,16 @@
 //! `differential [TEXTS [SEED]]`
 
 use differential::graders::{self, Grader};
+use differential::tally::JUDGED_TEXTS;
 use differential::{laws, random, vectors};
 use std::process::ExitCode;
 
-const TEXTS: usize = 120_000;
 const SEED: u64 = 20_071_105;
 const LAW_PROGRAMS: usize = 3_000;
 
 fn main() -> ExitCode {
     let mut arguments = std::env::args().skip(1).map(|argument| argument.parse::<u64>().expect("a number"));
-    let texts = arguments.next().map_or(TEXTS, |texts| texts as usize);
+    let texts = arguments.next().map_or(JUDGED_TEXTS, |texts| texts as usize);
     let seed = arguments.next().unwrap_or(SEED);
     let graders = graders::all();
     let names: Vec<_> = graders.iter().map(|grader| grader.name()).collect();
@@ -43,7 +43,7 @@ fn run_random(seed: u64, count: usize, graders: &[Box<dyn Grader>]) -> bool {
     match random::run(seed, count, graders) {
         Ok(tally) => {
             println!("random texts: {count} from seed {seed}, no difference; reached:\n{tally}");
-            tally.is_enough() || count < TEXTS
+            tally.is_enough()
         }
         Err(failure) => {
             println!("random texts: a difference\n{failure}");

@@ -37,7 +37,7 @@ fn wrong_lengths(rng: &mut Rng) -> WrongLengths {
 
 /// Runs so many cases. Gives the tally, or a failing text in words, shrunk.
 pub fn run(seed: u64, count: usize, graders: &[Box<dyn Grader>]) -> Result<Tally, String> {
-    let mut tally = Tally::default();
+    let mut tally = Tally::of_texts(count);
     for case in 0..count {
         let rng = &mut Rng::of_case(seed, case as u64);
         let text = text(rng);

@@ -14,9 +14,14 @@ struct Line {
 /// The things to be reached, in the order of this table.
 pub struct Tally {
     lines: Vec<Line>,
+    /// Is the run long enough to be held to what is wanted?
+    is_judged: bool,
     most_rounds: u16,
     longest: usize,
 }
+
+/// How many texts a run must have to be held to [`WANTED`].
+pub const JUDGED_TEXTS: usize = 120_000;
 
 const WANTED: [(&str, usize); 21] = [
     ("accepted", 10_000),
@@ -42,14 +47,13 @@ const WANTED: [(&str, usize); 21] = [
     ("accepted, fork", 3_000),
 ];
 
-impl Default for Tally {
-    fn default() -> Tally {
-        let lines = WANTED.iter().map(|&(what, wanted)| Line { what, wanted, reached: 0 });
-        Tally { lines: lines.collect(), most_rounds: 0, longest: 0 }
-    }
-}
-
 impl Tally {
+    /// The tally of a run of so many texts.
+    pub fn of_texts(count: usize) -> Tally {
+        let lines = WANTED.iter().map(|&(what, wanted)| Line { what, wanted, reached: 0 });
+        Tally { lines: lines.collect(), is_judged: count >= JUDGED_TEXTS, most_rounds: 0, longest: 0 }
+    }
+
     fn count(&mut self, what: &str) {
         self.count_if(what, true);
     }
@@ -114,9 +118,9 @@ impl Tally {
         self.count_if("accepted, fork", has_op(op::FORK));
     }
 
-    /// Has each thing been reached often enough?
+    /// Has each thing been reached often enough? A short run need not have.
     pub fn is_enough(&self) -> bool {
-        self.lines.iter().all(|line| line.reached >= line.wanted)
+        !self.is_judged || self.lines.iter().all(|line| line.reached >= line.wanted)
     }
 }
 
@@ -128,10 +132,26 @@ fn has_alias(locks: &[u8]) -> bool {
 impl fmt::Display for Tally {
     fn fmt(&self, out: &mut fmt::Formatter) -> fmt::Result {
         for Line { what, wanted, reached } in &self.lines {
-            let note = if reached < wanted { "  TOO FEW" } else { "" };
-            writeln!(out, "  {what:<44} {reached:>7}  (wanted {wanted}){note}")?;
+            write!(out, "  {what:<44} {reached:>7}")?;
+            match self.is_judged {
+                true if reached < wanted => writeln!(out, "  (wanted {wanted})  TOO FEW")?,
+                true => writeln!(out, "  (wanted {wanted})")?,
+                false => writeln!(out)?,
+            }
         }
         writeln!(out, "  {:<44} {:>7}", "most rounds", self.most_rounds)?;
         write!(out, "  {:<44} {:>7}", "longest text", self.longest)
+    }
+}
+
+#[cfg(test)]
+mod tests {
+    use super::*;
+
+    #[test]
+    fn only_a_long_run_is_judged() {
+        let (short, long) = (Tally::of_texts(JUDGED_TEXTS - 1), Tally::of_texts(JUDGED_TEXTS));
+        assert!(short.is_enough() && !short.to_string().contains("TOO FEW"));
+        assert!(!long.is_enough() && long.to_string().contains("TOO FEW"));
     }
 }
