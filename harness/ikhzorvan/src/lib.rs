@@ -16,10 +16,10 @@ pub use verdict::{
     Accepted, Broken, Kind, Record, Refusal, Verdict, ANSWER_LEN, LONGEST_SESSION, LONGEST_TEXT, RECORD_LEN,
 };
 
-/// How many bytes of stack are enough for a call of either function, whatever the text. A main thread has more, and so has a
-/// thread of Rust's standard library unless it is asked for less; a thread of musl has less.
+/// How many bytes of stack are enough for a call of either function, whatever the text. As a rule a main thread has more, and
+/// a thread of the standard library unless it is asked for less.
 ///
-/// This is measured and not proved: no call needs more than two thirds of it.
+/// This is measured and not proved: on x86-64 no call needs more than two thirds of it.
 pub const STACK: usize = 512 * 1024;
 
 #[cfg(feature = "engine")]
