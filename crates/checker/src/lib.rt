@@ -3,13 +3,14 @@ mod root;
 
 use frames::Outcome;
 use frames::layout::ANSWER_LENGTH;
+use frames::layout::MOST_TEXT;
 ghost use mathlib.Core.Path.{_≡_};
 ghost use mathlib.Core.Bool.{true};
 ghost use lib.ListN.{length};
 ghost use Rattle.frames.specs.Layout.{answerLength};
 ghost use Rattle.solver.specs.Room.{hasRoom};
 ghost use Rattle.checker.specs.Grading.{verdictOf, answerOf};
-ghost use Rattle.checker.specs.Code.Steps.{solvedVerdict, solvedBytes};
+ghost use Rattle.checker.specs.Code.Steps.{byLength, solvedVerdict, solvedBytes};
 pub use root::lowest_root;
 pub use solver::Root;
 
@@ -77,15 +78,25 @@ fn solved(tables: &[u8], answer: &mut [u8]) -> Verdict
     }
 }
 
-// Grades a text. The answer has 1,024 bytes, entry h of method m at 16m + h and every other byte 0, if the text is accepted; a refusal
-// leaves it as it was.
-pub fn grade(text: &[u8], answer: &mut [u8]) -> Verdict
+// "Order: 1, 2": the refusal that the lengths of the answer and of the text decide, before anything is read; 0 if there is none.
+fn by_length(answer: usize, text: usize) -> u8
+    ensures { λ r. ⌜ r ≡ byLength answer text ⌝ }
+{
+    if answer != ANSWER_LENGTH {
+        return 1;
+    }
+    if MOST_TEXT < text {
+        return 2;
+    }
+    0
+}
+
+// "then line by line, in each line 3, 4, 5, 6, then 7".
+fn by_lines(text: &[u8], answer: &mut [u8]) -> Verdict
+    requires { ⌜ length (now answer) ≡ answerLength ⌝ }
     ensures { λ r. ⌜ r ≡ verdictOf (now (text .entry)) (length (now (answer .entry))) ⌝ }
     ensures { λ _. ⌜ now (answer .exit) ≡ answerOf (now (text .entry)) (now (answer .entry)) ⌝ }
 {
-    if answer.len() != ANSWER_LENGTH {
-        return Verdict::WrongLength;
-    }
     let checked = frames::read(text);
     let outcome = checked.outcome;
     match outcome {
@@ -100,4 +111,20 @@ pub fn grade(text: &[u8], answer: &mut [u8]) -> Verdict
         Outcome::OutOfRange(line) => Verdict::OutOfRange(line),
         Outcome::Unlinked(line) => Verdict::Unlinked(line),
     }
+}
+
+// Grades a text. The answer has 1,024 bytes, entry h of method m at 16m + h and every other byte 0, if the text is accepted; a refusal
+// leaves it as it was.
+pub fn grade(text: &[u8], answer: &mut [u8]) -> Verdict
+    ensures { λ r. ⌜ r ≡ verdictOf (now (text .entry)) (length (now (answer .entry))) ⌝ }
+    ensures { λ _. ⌜ now (answer .exit) ≡ answerOf (now (text .entry)) (now (answer .entry)) ⌝ }
+{
+    let refused = by_length(answer.len(), text.len());
+    if refused == 1 {
+        return Verdict::WrongLength;
+    }
+    if refused == 2 {
+        return Verdict::Overlong;
+    }
+    by_lines(text, answer)
 }

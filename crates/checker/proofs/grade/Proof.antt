@@ -1,121 +1,45 @@
--- `checker::grade` meets its contract: the answer's length, then what reading comes to, then what the solver finds.
+-- `grade` meets its contract: what the lengths decide, then what the lines do.
 -- Assumes nothing.
-use mathlib.Core.Path.{_≡_, refl, sym, ap, _∙_}
-use denote.Ref.{now}
+use mathlib.Core.Path.{sym}
 use lib.ListN.{length}
-use native.Mathlib.Omega.{arith}
-use Rattle.frames.specs.Reading.{readText}
-use Rattle.frames.specs.declared.Checked.{Checked}
-use Rattle.frames.specs.declared.Outcome.the-variants as Outcome
-use Rattle.solver.specs.Room.{hasRoom}
-use Rattle.checker.specs.Code.Steps.{solvedVerdict, solvedBytes}
-use Rattle.checker.specs.Laws.Grading.{wrong-verdict, wrong-bytes, right-verdict, right-bytes, read-room, read-verdict, read-bytes}
+use denote.Ref.{now}
 use borrow.Author.Needs.{needs}
+use Rattle.checker.specs.Laws.Grading.{by-length, wrong-verdict, wrong-bytes, over-verdict, over-bytes}
 use Rattle.checker.proofs.grade.Statement.{statement}
 use Rattle.checker.proofs.grade.Tie as tie
 
+by-length-requires : tie.Need-by-length-requires
+by-length-requires c κs = search needs
+
 returns : tie.Need-returns
-returns c = let a = c .before .before .before .args in
-    (sym (wrong-verdict (now (a .text)) (length (now (a .answer))) (c .if1 .taken)), sym (wrong-bytes (now (a .text)) (now (a .answer)) (c .if1 .taken)))
+returns c =
+    let l = c .before in
+    let a = l .before .before .before .args in
+    let wrong = by-length (length (now (a .answer))) (length (now (a .text))) (l .by-length .result) (l .by-length .ensures) .one (c .if1 .taken) in
+    (sym (wrong-verdict (now (a .text)) (length (now (a .answer))) wrong), sym (wrong-bytes (now (a .text)) (now (a .answer)) wrong))
 
-read-requires : tie.Need-read-requires
-read-requires c κs = search needs
+returns-2 : tie.Need-returns-2
+returns-2 c =
+    let l = c .before .before in
+    let a = l .before .before .before .args in
+    let facts = by-length (length (now (a .answer))) (length (now (a .text))) (l .by-length .result) (l .by-length .ensures) in
+    let right = facts .right (c .before .if1 .left) in
+    let over = facts .two (c .if2 .taken) in
+    (sym (over-verdict (now (a .text)) (length (now (a .answer))) right over), sym (over-bytes (now (a .text)) (now (a .answer)) right over))
 
-enum-told : tie.Need-enum-told
-enum-told c = search needs
-
-slice-aggregate-solved : tie.Need-slice-aggregate-solved
-slice-aggregate-solved c = search needs
-
-solved-requires : tie.Need-solved-requires
-solved-requires c κs =
-    let is = c .before .before .before .before .before .before .read .ensures in (
-      c .before .before .before .before .before .before .before .if1 .left,
-      ap (λ (x : Checked). hasRoom (x .tables .bytes)) is
-          ∙ read-room (now (c .before .before .before .before .before .before .before .before .before .before .args .text)) (ap (λ (x : Checked). x .outcome) (sym is) ∙ c .before .before .before .before .enum-told .given .1),
-    )
-
-enum-told-2 : tie.Need-enum-told-2
-enum-told-2 c = search needs
-
-enum-known-outcome : tie.Need-enum-known-outcome
-enum-known-outcome c = search needs
-
-enum-known-outcome-2 : tie.Need-enum-known-outcome-2
-enum-known-outcome-2 c = search needs
-
-enum-known-outcome-3 : tie.Need-enum-known-outcome-3
-enum-known-outcome-3 c = search needs
-
-enum-known-outcome-4 : tie.Need-enum-known-outcome-4
-enum-known-outcome-4 c = search needs
+by-lines-requires : tie.Need-by-lines-requires
+by-lines-requires c κs =
+    let l = c .before .before .before in
+    let a = l .before .before .before .args in
+    by-length (length (now (a .answer))) (length (now (a .text))) (l .by-length .result) (l .by-length .ensures) .right (c .before .before .if1 .left)
 
 same-length : tie.Need-same-length
 same-length c = search needs
 
-returns-2 : tie.Need-returns-2
-returns-2 c =
-    let text = now (c .before .before .before .before .before .before .before .before .before .before .before .before .before .args .text) in
-    let old = now (c .before .before .before .before .before .before .before .before .before .before .before .before .before .args .answer) in
-    let is = c .before .before .before .before .before .before .before .before .before .read .ensures in
-    let e : readText text .outcome ≡ Outcome.Whole = ap (λ (x : Checked). x .outcome) (sym is) ∙ c .before .before .before .before .before .before .before .enum-told .given .1 in (
-      c .before .before .solved .ensures .0 ∙ ap (λ (x : Checked). solvedVerdict (x .tables .bytes)) is ∙ read-verdict text (length old) (c .before .before .before .before .before .before .before .before .before .before .if1 .left) e,
-      c .before .before .solved .ensures .1 ∙ ap (λ (x : Checked). solvedBytes (x .tables .bytes) old) is ∙ read-bytes text old (c .before .before .before .before .before .before .before .before .before .before .if1 .left) e,
-    )
-
 returns-3 : tie.Need-returns-3
-returns-3 c =
-    let text = now (c .before .before .before .before .before .before .args .text) in
-    let old = now (c .before .before .before .before .before .before .args .answer) in
-    let e : readText text .outcome ≡ Outcome.Overlong = ap (λ (x : Checked). x .outcome) (sym (c .before .before .read .ensures)) ∙ c .enum-told2 .given .1 in
-    (sym (right-verdict text (length old) (Outcome.Overlong) (c .before .before .before .if1 .left) e), sym (right-bytes text old (Outcome.Overlong) (c .before .before .before .if1 .left) e))
-
-returns-4 : tie.Need-returns-4
-returns-4 c =
-    let text = now (c .before .before .before .before .before .before .before .args .text) in
-    let old = now (c .before .before .before .before .before .before .before .args .answer) in
-    let e : readText text .outcome ≡ Outcome.Malformed (c .before .outcome .given .0 .0) = ap (λ (x : Checked). x .outcome) (sym (c .before .before .before .read .ensures)) ∙ c .before .outcome .given .1 in
-    (sym (right-verdict text (length old) (Outcome.Malformed (c .before .outcome .given .0 .0)) (c .before .before .before .before .if1 .left) e), sym (right-bytes text old (Outcome.Malformed (c .before .outcome .given .0 .0)) (c .before .before .before .before .if1 .left) e))
-
-returns-5 : tie.Need-returns-5
-returns-5 c =
-    let text = now (c .before .before .before .before .before .before .before .args .text) in
-    let old = now (c .before .before .before .before .before .before .before .args .answer) in
-    let e : readText text .outcome ≡ Outcome.Misplaced (c .before .outcome2 .given .0 .0) = ap (λ (x : Checked). x .outcome) (sym (c .before .before .before .read .ensures)) ∙ c .before .outcome2 .given .1 in
-    (sym (right-verdict text (length old) (Outcome.Misplaced (c .before .outcome2 .given .0 .0)) (c .before .before .before .before .if1 .left) e), sym (right-bytes text old (Outcome.Misplaced (c .before .outcome2 .given .0 .0)) (c .before .before .before .before .if1 .left) e))
-
-returns-6 : tie.Need-returns-6
-returns-6 c =
-    let text = now (c .before .before .before .before .before .before .before .args .text) in
-    let old = now (c .before .before .before .before .before .before .before .args .answer) in
-    let e : readText text .outcome ≡ Outcome.OutOfRange (c .before .outcome3 .given .0 .0) = ap (λ (x : Checked). x .outcome) (sym (c .before .before .before .read .ensures)) ∙ c .before .outcome3 .given .1 in
-    (sym (right-verdict text (length old) (Outcome.OutOfRange (c .before .outcome3 .given .0 .0)) (c .before .before .before .before .if1 .left) e), sym (right-bytes text old (Outcome.OutOfRange (c .before .outcome3 .given .0 .0)) (c .before .before .before .before .if1 .left) e))
-
-returns-7 : tie.Need-returns-7
-returns-7 c =
-    let text = now (c .before .before .before .before .before .before .before .args .text) in
-    let old = now (c .before .before .before .before .before .before .before .args .answer) in
-    let e : readText text .outcome ≡ Outcome.Unlinked (c .before .outcome4 .given .0 .0) = ap (λ (x : Checked). x .outcome) (sym (c .before .before .before .read .ensures)) ∙ c .before .outcome4 .given .1 in
-    (sym (right-verdict text (length old) (Outcome.Unlinked (c .before .outcome4 .given .0 .0)) (c .before .before .before .before .if1 .left) e), sym (right-bytes text old (Outcome.Unlinked (c .before .outcome4 .given .0 .0)) (c .before .before .before .before .if1 .left) e))
+returns-3 c = search needs
 
 pub grade-spec : {M : Type 1} → statement M
 grade-spec =
     tie.close
-    (tie.spec
-    returns
-    read-requires
-    enum-told
-    slice-aggregate-solved
-    solved-requires
-    enum-told-2
-    enum-known-outcome
-    enum-known-outcome-2
-    enum-known-outcome-3
-    enum-known-outcome-4
-    same-length
-    returns-2
-    returns-3
-    returns-4
-    returns-5
-    returns-6
-    returns-7)
+    (tie.spec by-length-requires returns returns-2 by-lines-requires same-length returns-3)
