@@ -34,7 +34,7 @@ put-line-requires c κs = search needs
 put-methods-requires : tie.Need-put-methods-requires
 put-methods-requires c κs =
     let pre = c .before .before .before .before .before .before .before .before .before .before .before .before .pre in
-    let frame : List ℕ = 16 ∷ c .before .before .before .before .before .before .before .before .low .result ∷ c .before .before .before .before .before .before .before .high .result ∷ c .before .before .before .before .before .before .low2 .result ∷ [] in
+    let frame : List ℕ = 0x10 ∷ c .before .before .before .before .before .before .before .before .low .result ∷ c .before .before .before .before .before .before .before .high .result ∷ c .before .before .before .before .before .before .low2 .result ∷ [] in
     (pre .0, (pre .1 .0, (pre .1 .1 .0, omega (arith, pre .0 .fewMethods, pre .1 .0, pre .1 .1 .1, c .before .before .before .put-line .ensures .0, length-line frame, c .before .before .before .put-line .kept .1 .0))))
 
 same-length : tie.Need-same-length
@@ -44,7 +44,7 @@ returns : tie.Need-returns
 returns c =
     let a = c .before .before .before .before .before .before .before .before .before .before .before .before .before .before .before .args in
     let pre = c .before .before .before .before .before .before .before .before .before .before .before .before .before .before .before .pre in
-    let frame : List ℕ = 16 ∷ c .before .before .before .before .before .before .before .before .before .before .before .low .result ∷ c .before .before .before .before .before .before .before .before .before .before .high .result ∷ c .before .before .before .before .before .before .before .before .before .low2 .result ∷ [] in
+    let frame : List ℕ = 0x10 ∷ c .before .before .before .before .before .before .before .before .before .before .before .low .result ∷ c .before .before .before .before .before .before .before .before .before .before .high .result ∷ c .before .before .before .before .before .before .before .before .before .low2 .result ∷ [] in
     let long = length-line frame in
     let line = c .before .before .before .before .before .before .put-line .ensures in
     let lines = c .before .before .put-methods .ensures in

@@ -3,6 +3,7 @@
 use Prim.Native.Nat.{_+_, _*_, _-_}
 use native.Mathlib.Omega.{arith}
 use denote.Ref.{now}
+use Rattle.frames.specs.Layout.{layout}
 use Rattle.session.specs.Laws.Page.{parts-put}
 use Rattle.session.specs.Laws.Session.{frame-parts, frame-short}
 use borrow.Author.Needs.{needs}
@@ -57,7 +58,7 @@ returns c =
     let pre = c .before .before .before .before .before .before .before .before .before .before .before .before .before .before .before .before .before .before .before .before .before .pre in
     let t = now (a .tables) in
     parts-put (now (a .page)) (a .at) _ _ _ _ _ _ _ _ _
-    (frame-parts t (now (a .answer)) (a .m) (pre .0) (pre .1 .0) (pre .1 .1 .0) (c .before .before .before .before .before .before .before .before .before .before .before .before .before .before .before .before .before .k .result) (16 * a .m + c .before .before .before .before .before .before .before .before .before .before .before .before .before .before .before .before .entries .result - 16 * a .m) _ _ (c .before .before .before .before .before .before .before .before .before .before .before .before .before .before .before .before .before .k .ensures .is)
+    (frame-parts t (now (a .answer)) (a .m) (pre .0) (pre .1 .0) (pre .1 .1 .0) (c .before .before .before .before .before .before .before .before .before .before .before .before .before .before .before .before .before .k .result) (layout .grades * a .m + c .before .before .before .before .before .before .before .before .before .before .before .before .before .before .before .before .entries .result - layout .grades * a .m) _ _ (c .before .before .before .before .before .before .before .before .before .before .before .before .before .before .before .before .before .k .ensures .is)
     (omega (arith, c .before .before .before .before .before .before .before .before .before .before .before .before .before .before .before .before .entries .ensures)) (c .before .before .before .before .before .before .before .before .before .before .before .before .before .before .before .low .ensures) (c .before .before .before .before .before .before .before .before .before .before .before .before .before .before .low2 .ensures))
     (frame-short t (now (a .answer)) (a .m) (pre .0) (pre .1 .0) (pre .1 .1 .0)) (pre .1 .1 .1)
     (c .before .before .before .before .before .before .before .before .before .before .before .put-bytes .ensures .0) (c .before .before .before .before .before .before .before .before .before .before .before .put-bytes .ensures .1) (c .before .before .before .before .before .before .put-bytes2 .ensures .0) (c .before .before .before .before .before .before .put-bytes2 .ensures .1) (c .before .before .end-line .ensures .0) (c .before .before .end-line .ensures .1)
