@@ -16,7 +16,8 @@ use Rattle.meaning.specs.Meaning.{Assignment}
 use Rattle.meaning.specs.Lowest.{NoWorse, methodCount, entryCount}
 use Rattle.meaning.specs.Constraints.{Answer, accepted, refused, answer, entryOf}
 use Rattle.meaning.specs.Changes.{StruckOut, WrittenBack}
-use Rattle.meaning.specs.Demand3.{DeclaredAntitone, demand-3}
+use Rattle.meaning.specs.Changes.{DeclaredAntitone}
+use Rattle.meaning.specs.Demand3.{demand-3}
 use Rattle.solver.specs.Flat.{flat}
 use Rattle.solver.specs.Laws.Flat.{flat-length, flat-at, flat-entry}
 use Rattle.checker.specs.Grading.{programRead, byAnswer, verdictOf, bytesByAnswer, answerOf}

@@ -10,7 +10,7 @@ use lib.Bits.{bitAnd, bitOr, and-mask, or-step, or-zero-r}
 use lib.Dec.{eqb}
 use lib.ListN.{length, getD, take}
 use lib.Pow.{pow-pos, pow-lt, pow-mono}
-use Rattle.grades.specs.HeldSets.{held, add, calleeSet}
+use Rattle.grades.specs.HeldSets.{held, add}
 use Rattle.grades.specs.Laws.HeldSets.{none-held, from-halves, add-zero-half, add-zero-odd, add-suc-half, add-suc-odd, add-free, bit-before}
 
 -- the lowest bit of a shifted set
@@ -36,27 +36,3 @@ or-bit H (suc l) =
     ∙ ap₂ (λ (m n : ℕ). bitOr (H / 2) m * 2 + max (H % 2) n) half even
     ∙ ap₂ (λ (m n : ℕ). m * 2 + n) (or-bit (H / 2) l) (max-zero (H % 2))
     ∙ from-halves (add (H / 2) l * 2 + H % 2) (add H (suc l)) (omega (arith, add-suc-half H l)) (omega (arith, add-suc-odd H l))
-
--- one name more: the callee's set has its bit where the caller holds that name
-pub callee-more : (H : ℕ) (names : List ℕ) (j d : ℕ) → j < length names
-    → calleeSet H (take (suc j) names) ≡ cond (held H (getD names j d)) (add (calleeSet H (take j names)) j) (calleeSet H (take j names))
-unfolding calleeSet
-callee-more H [] j d h = absurd (not-suc-le-zero h)
-callee-more H (t ∷ names) zero d h = first (held H t)
-  where
-    first : (b : Bool) → cond b 1 0 + 0 * 2 ≡ cond b (add 0 0) 0
-    first true = sym (add-free 0 0 (none-held 0))
-    first false = refl
-callee-more H (t ∷ names) (suc j) d h =
-    ap (λ (n : ℕ). cond (held H t) 1 0 + n * 2) (callee-more H names j d (le-of-suc-le-suc h))
-    ∙ next (held H t) (held H (getD names j d)) (calleeSet H (take j names))
-  where
-    bit-set : (b : Bool) (n : ℕ) → cond b 1 0 + add n j * 2 ≡ add (cond b 1 0 + n * 2) (suc j)
-    bit-set b n =
-        from-halves (cond b 1 0 + add n j * 2) (add (cond b 1 0 + n * 2) (suc j))
-        (bit-before b (add n j) .0 ∙ ap (λ (m : ℕ). add m j) (sym (bit-before b n .0)) ∙ sym (add-suc-half (cond b 1 0 + n * 2) j))
-        (bit-before b (add n j) .1 ∙ sym (bit-before b n .1) ∙ sym (add-suc-odd (cond b 1 0 + n * 2) j))
-
-    next : (b a : Bool) (n : ℕ) → cond b 1 0 + cond a (add n j) n * 2 ≡ cond a (add (cond b 1 0 + n * 2) (suc j)) (cond b 1 0 + n * 2)
-    next b true n = bit-set b n
-    next b false n = refl

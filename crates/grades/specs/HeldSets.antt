@@ -32,13 +32,11 @@ unfoldable pub addWithin : ℕ → ℕ → ℕ → ℕ
 unfolding add
 addWithin w H l = cond (ltb l w) (add H l) H
 
--- FF: "the caller has no constant name for that lock; such a lock counts as not held"
+-- FF: "the caller has no constant name for that lock"
 abbrev pub noName : ℕ
 noName = 0xFF
 
--- "Tj is the caller's name for the callee's lock name j. Callee name j is held exactly if Tj is in H." The first of the names is the
--- callee's name 0.
-unfoldable pub calleeSet : ℕ → List ℕ → ℕ
-unfolding held
-calleeSet H [] = 0
-calleeSet H (t ∷ names) = cond (held H t) 1 0 + calleeSet H names * 2
+-- the set that a list of answers packs into, the first of them for name 0: a name is held exactly if its answer says so
+unfoldable pub packed : List Bool → ℕ
+packed [] = 0
+packed (isHeld ∷ answers) = cond isHeld 1 0 + packed answers * 2

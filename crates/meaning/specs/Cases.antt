@@ -1,4 +1,4 @@
--- Document 01's "Proved cases" as one joint statement, and its "One whole session", computed from the definitions.
+-- Document 01's "Proved cases", and document 02's P13, as one joint statement; 01's "One whole session"; all computed from the definitions.
 -- Assumes nothing.
 use Prim.Native.Nat.{ℕ}
 use mathlib.Core.Bool.{true, false}
@@ -7,10 +7,10 @@ use mathlib.Core.Path.{_≡_, refl}
 use lib.ListN.{getD}
 use Rattle.grades.specs.Grades.{cap, composition, compose, join, closure, assertAtomic, lockTaken}
 use Rattle.grades.specs.Access.{unprotected, guarded, readAccess, writeAccess, access}
-use Rattle.grades.specs.HeldSets.{entries, held, add, noName, calleeSet}
+use Rattle.grades.specs.HeldSets.{entries, held, add, noName, packed}
 use Rattle.grades.specs.Cases.{ArithmeticCases, arithmetic-cases}
 use Rattle.frames.specs.Program.{Field, Node, Method, Program, noField, plainNode, noMethod, fieldAt, methodAt, nodeAt}
-use Rattle.meaning.specs.Meaning.{rootOf, opOf, children, firstName, fieldAccess, matching, largest, calleeEntry, parts, whole, nodeGrade, below, meaning, rootTable}
+use Rattle.meaning.specs.Meaning.{rootOf, opOf, children, firstName, fieldAccess, allowed, choices, matching, largest, calleeEntry, parts, whole, nodeGrade, below, meaning, rootTable}
 use Rattle.counting.specs.Counting.{every, first, upTo}
 use Rattle.meaning.specs.Lowest.{methodCount, entryCount, isEntry, onEntries, start, round, after, same, settled, openEntries, roundsFrom, lowestFrom, isDeclared, declaredTable, declarations, rounds, lowest}
 use Rattle.meaning.specs.Constraints.{declaredRoot, mainTable, forkedTable, namedMethod, forkAt, forksOf, closedOf, closedOfAll, closed, brokenSet, isBroken, firstBroken, finding, accepted, refused, tablesOf, answer}
@@ -43,10 +43,10 @@ empty = record { fields = []; methods = [] }
 abbrev lockedOn : (k l : ℕ) → List ℕ → List ℕ
 lockedOn k l child = over k (node 6 0 0 0 (l ∷ [])) child [] empty
 
--- a call of a method of two names, its table given, after a plain value
-abbrev calling : (k : ℕ) → (names callee : List ℕ) → List ℕ
-calling k names callee =
-    over k (node 8 0 0 0 names) [] callee (record { fields = []; methods = undeclared 2 [] ∷ [] })
+-- a call, after a plain value, of a method whose number of names and table are given
+abbrev calling : (k calleeNames : ℕ) → (names callee : List ℕ) → List ℕ
+calling k calleeNames names callee =
+    over k (node 8 0 0 0 names) [] callee (record { fields = []; methods = undeclared calleeNames [] ∷ [] })
 
 -- ---- P12
 
@@ -83,14 +83,16 @@ pub record ProvedCases : Type 0 where
   pub P6 : lockedOn 1 0 (4 ∷ 1 ∷ []) ≡ 2 ∷ 1 ∷ []
   pub P7 : lockedOn 1 0 (3 ∷ 3 ∷ []) ≡ 3 ∷ 3 ∷ []
   pub P8 : lockedOn 2 0 (4 ∷ 4 ∷ 1 ∷ 1 ∷ []) ≡ 4 ∷ 4 ∷ 2 ∷ 1 ∷ []
-  pub P10 : calling 1 (0 ∷ 0 ∷ []) (4 ∷ 3 ∷ 2 ∷ 1 ∷ []) ≡ 4 ∷ 1 ∷ []
-  pub P11 : calling 1 (0 ∷ noName ∷ []) (4 ∷ 3 ∷ 2 ∷ 1 ∷ []) ≡ 4 ∷ 3 ∷ []
+  pub P10 : calling 1 2 (0 ∷ 0 ∷ []) (4 ∷ 3 ∷ 2 ∷ 1 ∷ []) ≡ 4 ∷ 1 ∷ []
+  pub P11 : calling 1 2 (0 ∷ noName ∷ []) (4 ∷ 3 ∷ 2 ∷ 1 ∷ []) ≡ 4 ∷ 3 ∷ []
   pub P12 : answer callsItself ≡ accepted 2 ((3 ∷ []) ∷ [])
+  -- document 02's: "a supplier's declared [1,3], called with FF, must give 3"
+  pub P13 : calling 1 1 (noName ∷ []) (1 ∷ 3 ∷ []) ≡ 3 ∷ 3 ∷ []
 
 pub proved-cases : ProvedCases
 unfolding
-    cap composition compose join closure assertAtomic lockTaken unprotected guarded readAccess writeAccess access entries held add calleeSet
-    noField plainNode noMethod fieldAt methodAt nodeAt rootOf opOf children firstName fieldAccess matching largest calleeEntry parts
+    cap composition compose join closure assertAtomic lockTaken unprotected guarded readAccess writeAccess access entries held add packed
+    noField plainNode noMethod fieldAt methodAt nodeAt rootOf opOf children firstName fieldAccess allowed choices matching largest calleeEntry parts
     whole nodeGrade below meaning rootTable every first methodCount entryCount isEntry onEntries start round after same settled openEntries
     roundsFrom lowestFrom isDeclared declaredTable declarations rounds lowest namedMethod forkAt forksOf closedOf closedOfAll closed
     brokenSet isBroken firstBroken finding tablesOf answer
@@ -104,6 +106,7 @@ proved-cases =
       P10 = refl;
       P11 = refl;
       P12 = refl;
+      P13 = refl;
     }
 
 -- ---- the session's two answers, and cases that tell this meaning from its easy errors
@@ -209,6 +212,14 @@ accesses =
           ∷ [];
     }
 
+-- a supplier's method, declared to get worse where its lock is held; main calls it, and has no name for that lock
+abbrev supplied : Program
+supplied =
+    record {
+      fields = [];
+      methods = undeclared 0 (plain ∷ node 8 0 0 1 (noName ∷ []) ∷ []) ∷ declaredAt 1 (1 ∷ 3 ∷ []) (plain ∷ []) ∷ [];
+    }
+
 pub record WorkedCases : Type 0 where
   pub session-accepted : answer (session (undeclared 1 callsTwice)) ≡ accepted 3 ((3 ∷ []) ∷ (2 ∷ 1 ∷ []) ∷ (3 ∷ 1 ∷ []) ∷ [])
   pub session-refused : answer (session (declaredAt 1 (2 ∷ 2 ∷ []) callsTwice)) ≡ refused 2 1 0 0
@@ -233,11 +244,18 @@ pub record WorkedCases : Type 0 where
   pub choice-operands : answer (record { fields = unguarded ∷ []; methods = choosesByField 4 2 ∷ choosesByField 2 4 ∷ [] }) ≡ accepted 1 ((3 ∷ []) ∷ (3 ∷ []) ∷ [])
   pub access-operands : answer follows ≡ accepted 1 ((3 ∷ []) ∷ (4 ∷ 3 ∷ []) ∷ [])
   pub loop-operands : answer waits ≡ accepted 1 ((3 ∷ []) ∷ [])
+  -- P13 as a whole program
+  pub supplier : answer supplied ≡ accepted 1 ((3 ∷ []) ∷ (1 ∷ 3 ∷ []) ∷ [])
+  -- each FF is chosen apart: the largest entry stands where the one lock is held and the other is not
+  pub chosen-apart : calling 0 2 (noName ∷ noName ∷ []) (0 ∷ 3 ∷ 1 ∷ 2 ∷ []) ≡ 3 ∷ []
+  pub chosen-apart-too : calling 0 2 (noName ∷ noName ∷ []) (0 ∷ 1 ∷ 3 ∷ 2 ∷ []) ≡ 3 ∷ []
+  -- beside an FF, a name is held exactly if it is in H
+  pub beside-a-name : calling 1 2 (noName ∷ 0 ∷ []) (1 ∷ 2 ∷ 0 ∷ 3 ∷ []) ≡ 2 ∷ 3 ∷ []
 
 pub worked-cases : WorkedCases
 unfolding
-    cap composition compose join closure assertAtomic lockTaken unprotected guarded readAccess writeAccess access entries held add calleeSet
-    noField plainNode noMethod fieldAt methodAt nodeAt rootOf opOf children firstName fieldAccess matching largest calleeEntry parts
+    cap composition compose join closure assertAtomic lockTaken unprotected guarded readAccess writeAccess access entries held add packed
+    noField plainNode noMethod fieldAt methodAt nodeAt rootOf opOf children firstName fieldAccess allowed choices matching largest calleeEntry parts
     whole nodeGrade below meaning rootTable every first methodCount entryCount isEntry onEntries start round after same settled openEntries
     roundsFrom lowestFrom isDeclared declaredTable declarations rounds lowest namedMethod forkAt forksOf closedOf closedOfAll closed
     brokenSet isBroken firstBroken finding tablesOf answer
@@ -259,4 +277,8 @@ worked-cases =
       choice-operands = refl;
       access-operands = refl;
       loop-operands = refl;
+      supplier = refl;
+      chosen-apart = refl;
+      chosen-apart-too = refl;
+      beside-a-name = refl;
     }

@@ -63,3 +63,7 @@ writeBack which tables p = changeMethods (λ m x. declare (which m) (getD tables
 -- a method's table gets no larger as more is held
 pub record AntitoneAt (p : Program) (a : Assignment) (m : ℕ) : Type 0 where
   pub falls : (H H′ : ℕ) → H < entryCount p m → H′ < entryCount p m → Within H H′ → a m H′ ≤ a m H
+
+-- the declared tables get no larger as more is held
+abbrev pub DeclaredAntitone : Program → Type 0
+DeclaredAntitone p = (m : ℕ) → m < methodCount p → T (isDeclared p m) → AntitoneAt p (declaredTable p) m

@@ -3,25 +3,20 @@
 -- (b) an accepted program with declarations struck out, any ones, is accepted, and no grade is higher;
 -- (c) an accepted program with found tables written in as declarations is accepted, with the same tables.
 -- Assumes nothing.
-use Prim.Native.Nat.{ℕ, _<_}
+use Prim.Native.Nat.{ℕ}
 use mathlib.Core.List.{List}
 use mathlib.Core.Path.{_≡_, sym, ap, _∙_, subst}
-use lib.Dec.{T}
 use Rattle.frames.specs.Program.{Program}
 use Rattle.meaning.specs.Meaning.{Assignment}
-use Rattle.meaning.specs.Lowest.{NoWorse, methodCount, isDeclared, declaredTable, rounds, lowest}
+use Rattle.meaning.specs.Lowest.{NoWorse, rounds, lowest}
 use Rattle.meaning.specs.Constraints.{accepted, tablesOf, entryOf, answer, IsLowest}
 use Rattle.meaning.specs.Laws.Constraints.{lowest-is}
 use Rattle.meaning.specs.Laws.Answers.{tables-lowest, one-lowest, when-accepted, lowest-satisfies, satisfied-accepted}
-use Rattle.meaning.specs.Changes.{StruckOut, WrittenBack, AntitoneAt}
+use Rattle.meaning.specs.Changes.{StruckOut, WrittenBack, AntitoneAt, DeclaredAntitone}
 use Rattle.meaning.specs.Laws.Declarations.{alike-tables}
 use Rattle.meaning.specs.Laws.Changes.{lowest-antitone, struck-satisfies, written-satisfies, written-lowest}
 
 -- ---- the statement
-
--- the declared tables get no larger as more is held
-abbrev pub DeclaredAntitone : Program → Type 0
-DeclaredAntitone p = (m : ℕ) → m < methodCount p → T (isDeclared p m) → AntitoneAt p (declaredTable p) m
 
 -- (a), of an accepted program's tables, and of a refused one's lowest tables as well
 pub record FallingGrades (p : Program) : Type 0 where

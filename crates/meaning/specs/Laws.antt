@@ -1,4 +1,5 @@
 -- What follows of the definitions, most of it under their names.
+pub mod Calls
 pub mod Meaning
 pub mod Lowest
 pub mod Rounds

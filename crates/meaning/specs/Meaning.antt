@@ -1,5 +1,5 @@
--- What each node means: document 01's table of ops, "Accesses", "Synchronised on l" and "Call". Nothing here knows how many names, nodes
--- or methods a text has room for.
+-- What each node means: document 01's table of ops, "Accesses", "Synchronised on l" and "Call", the last with document 02's W-204. Nothing here
+-- knows how many names, nodes or methods a text has room for.
 -- Assumes nothing.
 use Prim.Native.Nat.{ℕ, zero, suc, pred, max}
 use mathlib.Core.Bool.{Bool, true, false, not, cond}
@@ -8,8 +8,9 @@ use lib.Dec.{eqb}
 use lib.ListN.{length, getD, take}
 use Rattle.grades.specs.Grades.{const, atomic, error, compose, join, closure, assertAtomic, lockTaken}
 use Rattle.grades.specs.Access.{access}
-use Rattle.grades.specs.HeldSets.{held, add, noName, calleeSet}
+use Rattle.grades.specs.HeldSets.{held, add, noName, packed}
 use Rattle.frames.specs.Program.{Field, Node, Method, Program, fieldAt, methodAt, nodeAt}
+use Rattle.counting.specs.Counting.{together}
 
 -- "An assignment gives each method a table": of a method and a held set, a grade
 abbrev pub Assignment : Type 0
@@ -60,19 +61,28 @@ firstName names = getD names 0 noName
 unfoldable pub fieldAccess : Field → (writing : Bool) → (names : List ℕ) → (H : ℕ) → ℕ
 fieldAccess field writing names H = access (field .width) (field .guard) writing (held H (firstName names))
 
--- the callee's held sets that match the names and H. "Callee name j is held exactly if Tj is in H", FF "counts as not held": one set.
--- A callee of k names takes the first k of the list.
-unfoldable pub matching : (k : ℕ) → (names : List ℕ) → (H : ℕ) → List ℕ
-matching k names H = calleeSet H (take k names) ∷ []
+-- is the callee's lock held? The answers that the caller's name for it allows. "Callee name j is held exactly if Tj is in H"; but an unnamed lock, FF,
+-- is not a lock left open: it may be held or not.
+unfoldable pub allowed : (H name : ℕ) → List Bool
+allowed H name = cond (eqb name noName) (false ∷ true ∷ []) (held H name ∷ [])
+
+-- all ways to choose an answer for each name, "each chosen apart"
+unfoldable pub choices : List (List Bool) → List (List Bool)
+choices [] = [] ∷ []
+choices (answers ∷ later) = together (λ chosen. map (λ answer. answer ∷ chosen) answers) (choices later)
+
+-- the callee's held sets that match the caller's names for its locks, in rising order
+unfoldable pub matching : (names : List ℕ) → (H : ℕ) → List ℕ
+matching names H = map packed (choices (map (allowed H) names))
 
 -- the largest of a table's entries at some sets
 unfoldable pub largest : (ℕ → ℕ) → List ℕ → ℕ
 largest table [] = const
 largest table (S ∷ sets) = max (table S) (largest table sets)
 
--- the callee's entry, of its table: the largest over the sets that match
+-- "a call takes the largest callee entry over all choices for its FF names": of the callee's table. A callee of k names takes the first k.
 unfoldable pub calleeEntry : (k : ℕ) → (table : ℕ → ℕ) → (names : List ℕ) → (H : ℕ) → ℕ
-calleeEntry k table names H = largest table (matching k names H)
+calleeEntry k table names H = largest table (matching (take k names) H)
 
 -- ---- a node's parts, and the whole put together from them
 

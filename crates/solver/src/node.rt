@@ -8,17 +8,20 @@ use grades::arithmetic::closure;
 use grades::arithmetic::compose;
 use grades::arithmetic::join;
 use grades::arithmetic::lock_taken;
-use grades::held::callee_set;
+use grades::held::NO_NAME;
 use grades::held::holds;
 use grades::held::with_name;
 ghost use mathlib.Core.Path.{_≡_};
 ghost use mathlib.Core.List.{_∷_, []};
-ghost use Prim.Native.Nat.{_+_, _≤_, _<_, _^_, min};
+ghost use mathlib.Core.Bool.{cond};
+ghost use Prim.Native.Nat.{_+_, _*_, _≤_, _<_, _^_, min, max};
+ghost use lib.ListN.{length, drop};
+ghost use Rattle.grades.specs.HeldSets.{maskNames};
 ghost use Rattle.frames.specs.Layout.{layout};
 ghost use Rattle.frames.specs.Ranges.{childrenListed};
 ghost use Rattle.frames.specs.Program.{fieldAt, methodAt};
-ghost use Rattle.meaning.specs.Meaning.{opOf, childSet, fieldAccess, calleeEntry, meaning};
-ghost use Rattle.solver.specs.Code.Engine.{nodeIn, nodesFrom, tablesIn, childAt, ownGrade, combined, firstNodeFrame, lastFrame, LocksFit};
+ghost use Rattle.meaning.specs.Meaning.{opOf, childSet, fieldAccess, matching, largest, calleeEntry, meaning};
+ghost use Rattle.solver.specs.Code.Engine.{nodeIn, nodesFrom, tablesIn, childAt, entriesFrom, ownGrade, combined, firstNodeFrame, lastFrame, LocksFit};
 ghost use Rattle.solver.specs.Flat.{programIn};
 ghost use Rattle.solver.specs.Code.Parts.{PartsOf};
 
@@ -132,6 +135,40 @@ pub(crate) fn names_taken(tables: &[u8], u: usize) -> usize
     if k < NAMES { k } else { NAMES }
 }
 
+// The larger of two entries.
+fn larger(one: u8, other: u8) -> u8
+    ensures { λ r. ⌜ r ≡ max one other ⌝ }
+{
+    if one < other { other } else { one }
+}
+
+// A set of the callee's names below j, with the answer for name j.
+fn answered(inside: u8, j: u8, answer: bool) -> u8
+    requires { ⌜ (j < maskNames) × (inside < 2 ^ j) ⌝ }
+    ensures { λ r. ⌜ r ≡ inside + cond answer 1 0 * 2 ^ j ⌝ }
+{
+    if answer { with_name(inside, j) } else { inside }
+}
+
+// The largest of the callee's entries at the sets that match the caller's names and have, of the callee's names below j, those in
+// `inside`. A name is held exactly if the caller holds it; FF may be held or not, so both are tried. No list of the sets is made.
+fn largest_entry<'a>(grades: &'a [u8], u: usize, set: u8, names: &'a [u8], j: u8, inside: u8) -> u8
+    requires { ⌜ (u < 256) × (j ≤ length (now names)) × (length (now names) ≤ maskNames) × (inside < 2 ^ j) ⌝ }
+    ensures { λ r. ⌜ r ≡ largest (entriesFrom (tablesIn (now (grades .entry)) u) j inside) (matching (drop j (now (names .entry))) set) ⌝ }
+{
+    if names.len() <= j as usize {
+        return entry_at(grades, u, inside as usize);
+    }
+    let name = names[j as usize];
+    if name == NO_NAME {
+        let free = largest_entry(grades, u, set, names, j + 1, answered(inside, j, false));
+        let held = largest_entry(grades, u, set, names, j + 1, answered(inside, j, true));
+        return larger(free, held);
+    }
+    let next = answered(inside, j, holds(set, name));
+    largest_entry(grades, u, set, names, j + 1, next)
+}
+
 // The callee's entry.
 fn callee_grade<'a>(tables: &'a [u8], grades: &'a [u8], j: usize, set: u8) -> u8
     ensures { λ r. ⌜ r ≡ calleeEntry (methodAt (programIn (now (tables .entry))) (nodeIn (now (tables .entry)) j .U) .k) (tablesIn (now (grades .entry)) (nodeIn (now (tables .entry)) j .U)) (nodeIn (now (tables .entry)) j .names) set ⌝ }
@@ -144,8 +181,7 @@ fn callee_grade<'a>(tables: &'a [u8], grades: &'a [u8], j: usize, set: u8) -> u8
         byte(frames::name(tables, j, 2)),
         byte(frames::name(tables, j, 3)),
     ];
-    let inside = callee_set(set, &names[..k]);
-    entry_at(grades, u, inside as usize)
+    largest_entry(grades, u, set, &names[..k], 0, 0)
 }
 
 // A node's own part: an access, the callee's entry, a fork's 2; const where its op has none.

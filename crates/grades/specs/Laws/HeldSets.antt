@@ -12,7 +12,7 @@ use borrow.Author.Tests.{eqb-false}
 use native.Mathlib.Decide.{decLt}
 use lib.ListN.{length, getD}
 use lib.Pow.{pow-pos, pow-mono}
-use Rattle.grades.specs.HeldSets.{held, Within, add, noName, calleeSet}
+use Rattle.grades.specs.HeldSets.{held, Within, add, noName, packed}
 
 -- ---- membership, a bit at a time
 
@@ -192,7 +192,7 @@ pub add-respects : (H H′ l : ℕ) → Within H H′ → Within (add H l) (add 
 add-respects H H′ l p =
     add-within H (add H′ l) l (within-trans H H′ (add H′ l) p (within-add H′ l)) (added-held H′ l)
 
--- ---- the callee's set
+-- ---- answers packed into a set
 
 -- a bit before a set: the set is its half, the bit its lowest
 pub bit-before : (b : Bool) (n : ℕ) → ((cond b 1 0 + n * 2) / 2 ≡ n) × ((cond b 1 0 + n * 2) % 2 ≡ cond b 1 0)
@@ -203,34 +203,23 @@ bit-held : (b : Bool) → eqb (cond b 1 0) 1 ≡ b
 bit-held true = refl
 bit-held false = refl
 
-callee-half : (H t : ℕ) (names : List ℕ) → calleeSet H (t ∷ names) / 2 ≡ calleeSet H names
-unfolding calleeSet
-callee-half H t names = bit-before (held H t) (calleeSet H names) .0
+pub held-bit-first : (b : Bool) (S : ℕ) → held (cond b 1 0 + S * 2) 0 ≡ b
+held-bit-first b S = held-first (cond b 1 0 + S * 2) ∙ ap (λ (n : ℕ). eqb n 1) (bit-before b S .1) ∙ bit-held b
 
-callee-odd : (H t : ℕ) (names : List ℕ) → calleeSet H (t ∷ names) % 2 ≡ cond (held H t) 1 0
-unfolding calleeSet
-callee-odd H t names = bit-before (held H t) (calleeSet H names) .1
+pub held-bit-next : (b : Bool) (S j : ℕ) → held (cond b 1 0 + S * 2) (suc j) ≡ held S j
+held-bit-next b S j = held-next (cond b 1 0 + S * 2) j ∙ ap (λ (n : ℕ). held n j) (bit-before b S .0)
 
--- "Callee name j is held exactly if Tj is in H": of a list of names
-pub held-callee : (H : ℕ) (names : List ℕ) (j d : ℕ) → j < length names → held (calleeSet H names) j ≡ held H (getD names j d)
-held-callee H [] j d h = absurd (not-suc-le-zero h)
-held-callee H (t ∷ names) zero d h =
-    held-first (calleeSet H (t ∷ names)) ∙ ap (λ (n : ℕ). eqb n 1) (callee-odd H t names) ∙ bit-held (held H t)
-held-callee H (t ∷ names) (suc j) d h =
-    held-next (calleeSet H (t ∷ names)) j ∙ ap (λ (n : ℕ). held n j) (callee-half H t names)
-    ∙ held-callee H names j d (le-of-suc-le-suc h)
+-- "a name is held exactly if its answer says so"
+pub held-packed : (answers : List Bool) (j : ℕ) → held (packed answers) j ≡ getD answers j false
+unfolding packed
+held-packed [] j = none-held j
+held-packed (b ∷ answers) zero = held-bit-first b (packed answers)
+held-packed (b ∷ answers) (suc j) = held-bit-next b (packed answers) j ∙ held-packed answers j
 
--- every mapped set is one of the callee's held sets
-pub callee-below : (H : ℕ) (names : List ℕ) → calleeSet H names < 2 ^ length names
-unfolding calleeSet
-callee-below H [] = pow-pos 0
-callee-below H (t ∷ names) =
-    below-half (length names) (calleeSet H (t ∷ names))
-    (subst (λ (n : ℕ). n < 2 ^ length names) (sym (callee-half H t names)) (callee-below H names))
+-- of one name more
+pub bit-below : (k : ℕ) (b : Bool) (S : ℕ) → S < 2 ^ k → cond b 1 0 + S * 2 < 2 ^ suc k
+bit-below k b S h = below-half k (cond b 1 0 + S * 2) (subst (λ (n : ℕ). n < 2 ^ k) (sym (bit-before b S .0)) h)
 
-pub callee-respects : (H H′ : ℕ) (names : List ℕ) → Within H H′ → Within (calleeSet H names) (calleeSet H′ names)
-callee-respects H H′ names p j t = go (decLt j (length names))
-  where
-    go : Dec (j < length names) → T (held (calleeSet H′ names) j)
-    go (yes h) = subst T (sym (held-callee H′ names j 0 h)) (p (getD names j 0) (subst T (held-callee H names j 0 h) t))
-    go (no h) = absurd (subst T (held-past (length names) (calleeSet H names) j (callee-below H names) (omega arith)) t)
+pub bit-respects : (b b′ : Bool) (S S′ : ℕ) → (T b → T b′) → Within S S′ → Within (cond b 1 0 + S * 2) (cond b′ 1 0 + S′ * 2)
+bit-respects b b′ S S′ f w zero t = subst T (sym (held-bit-first b′ S′)) (f (subst T (held-bit-first b S) t))
+bit-respects b b′ S S′ f w (suc j) t = subst T (sym (held-bit-next b′ S′ j)) (w j (subst T (held-bit-next b S j) t))

@@ -20,7 +20,7 @@ use Rattle.meaning.specs.Laws.Lowest.{isEntry-of, entry-method, onEntrie
 use Rattle.meaning.specs.Constraints.{Entry, Meets, declaredRoot, mainTable, forkedTable, namedMethod, Met, closed, Satisfies}
 use Rattle.meaning.specs.Laws.Constraints.{lowest-is, ClosedMet, closed-met, met-closed}
 use Rattle.meaning.specs.Laws.Answers.{satisfied-met}
-use Rattle.meaning.specs.Changes.{Alike, StruckOut, WrittenBack, AntitoneAt}
+use Rattle.meaning.specs.Changes.{Alike, StruckOut, WrittenBack, AntitoneAt, DeclaredAntitone}
 use Rattle.meaning.specs.Laws.Declarations.{alike-entries, alike-entry, alike-back, alike-root, alike-named, alike-fork, alike-length}
 
 -- ---- held sets
@@ -66,7 +66,7 @@ module _ (p : Program) (g : Givens)
               (root-falls p (after p g n) (after-antitone n) i H H′ w);
         })) m
 
-pub lowest-antitone : (p : Program) → ((m : ℕ) → m < methodCount p → T (isDeclared p m) → AntitoneAt p (declaredTable p) m) → (m : ℕ) → AntitoneAt p (lowest p) m
+pub lowest-antitone : (p : Program) → DeclaredAntitone p → (m : ℕ) → AntitoneAt p (lowest p) m
 unfolding lowest lowestFrom declarations
 lowest-antitone p h m =
     after-antitone p (declarations p) h (λ i d t. record { falls = λ H H′ l l′ w. le-refl const }) (roundsFrom p (declarations p)) m

@@ -4,7 +4,7 @@
 use Prim.Native.Nat.{ℕ, zero, suc, _≤_, _<_}
 use mathlib.Core.Bool.{Bool, true, false, not, cond}
 use mathlib.Core.List.{List, [], _∷_, _++_, map}
-use mathlib.Core.Path.{_≡_, refl, sym, ap, _∙_, subst}
+use mathlib.Core.Path.{_≡_, refl, sym, ap, _∙_, subst, fun-ext}
 use native.Mathlib.Nat.{not-suc-le-zero, le-refl, le-of-eq, le-antisymm, lt-of-lt-of-le}
 use native.Mathlib.Omega.{arith}
 use lib.Dec.{T, eqb, eqb→eq, eqb-refl, T-not}
@@ -15,61 +15,21 @@ use Rattle.grades.specs.Grades.{const, error, lockTaken}
 use Rattle.grades.specs.Laws.Grades.{cap-grade, compose-grows, compose-error, join-grows, closure-grows, assert-grows, assert-error, lockTaken-grows, lockTaken-above, lockTaken-error}
 use Rattle.grades.specs.Access.{access}
 use Rattle.grades.specs.Laws.Access.{access-held}
-use Rattle.grades.specs.HeldSets.{entries, held, Within, add, noName, calleeSet}
-use Rattle.grades.specs.Laws.HeldSets.{no-name-held, held-callee, within-refl, add-respects, callee-below, callee-respects}
+use Rattle.grades.specs.HeldSets.{entries, held, Within, add, noName}
+use Rattle.grades.specs.Laws.HeldSets.{no-name-held, within-refl, add-respects}
 use Rattle.frames.specs.Program.{Field, Node, Program, fieldAt, methodAt, nodeAt}
-use Rattle.meaning.specs.Meaning.{Assignment, rootOf, Op, plainValue, read, write, sequence, choice, loop, synchronised, assertion, call, fork, noOp, opOf, listed, children, firstName, fieldAccess, matching, largest, calleeEntry, child, childSet, ownPart, parts, partGrade, whole, nodeGrade, below, meaning, rootTable}
+use Rattle.meaning.specs.Meaning.{Assignment, rootOf, Op, plainValue, read, write, sequence, choice, loop, synchronised, assertion, call, fork, noOp, opOf, listed, children, firstName, fieldAccess, calleeEntry, child, childSet, ownPart, parts, partGrade, whole, nodeGrade, below, meaning, rootTable}
 use Rattle.counting.specs.Counting.{All}
 use Rattle.meaning.specs.Tree.{InTree, itself, inside, isCall, all-among, same-tree}
+use Rattle.meaning.specs.NotHeld.{renamedBy, renamed}
+use Rattle.meaning.specs.Laws.Calls.{entry-grows, entry-falls}
 use Rattle.counting.specs.Laws.Tests.{chosen, cond-most}
-
--- ---- the callee's entry
-
-matched-below : (k : ℕ) (names : List ℕ) (H : ℕ) → calleeSet H (take k names) < entries k
-unfolding entries
-matched-below k names H =
-    let short : length (take k names) ≤ k = simp length-take (omega arith) in
-    lt-of-lt-of-le (callee-below H (take k names)) (pow-mono short)
-
-abbrev Paired : (ℕ → ℕ → Type 0) → List ℕ → List ℕ → Type 0
-Paired R [] [] = Unit {0}
-Paired R [] (T ∷ Ts) = ⊥
-Paired R (S ∷ Ss) [] = ⊥
-Paired R (S ∷ Ss) (T ∷ Ts) = R S T × Paired R Ss Ts
-
--- tables that are ordered at each pair have ordered largest entries
-largest-order : (t t′ : ℕ → ℕ) (R : ℕ → ℕ → Type 0) → ((S T : ℕ) → R S T → t′ T ≤ t S) → (Ss Ts : List ℕ) → Paired R Ss Ts → largest t′ Ts ≤ largest t Ss
-unfolding largest
-largest-order t t′ R f [] [] r = omega arith
-largest-order t t′ R f [] (T ∷ Ts) r = absurd r
-largest-order t t′ R f (S ∷ Ss) [] r = absurd r
-largest-order t t′ R f (S ∷ Ss) (T ∷ Ts) r = omega (arith, f S T (r .0), largest-order t t′ R f Ss Ts (r .1))
-
--- related callers' sets match related callee's sets, and each is one of the callee's held sets
-matching-order : (R : ℕ → ℕ → Type 0) → ((H H′ : ℕ) (names : List ℕ) → R H H′ → R (calleeSet H names) (calleeSet H′ names))
-    → (k : ℕ) (names : List ℕ) (H H′ : ℕ) → R H H′
-    → Paired (λ S T. (S < entries k) × (T < entries k) × R S T) (matching k names H) (matching k names H′)
-unfolding matching
-matching-order R R-callee k names H H′ r =
-    ((matched-below k names H, matched-below k names H′, R-callee H H′ (take k names) r), tt)
-
--- in the base one callee's set matches, so the entry is the table's there
-pub calleeEntry-at : (k : ℕ) (table : ℕ → ℕ) (names : List ℕ) (H : ℕ) → calleeEntry k table names H ≡ table (calleeSet H (take k names))
-unfolding calleeEntry matching largest
-calleeEntry-at k table names H = omega arith
-
--- ---- FF: "the caller has no constant name for that lock; such a lock counts as not held"
 
 -- "FF at a guarded or write-guarded access also means not held"
 pub access-no-name : (k H : ℕ) → k ≤ noName → H < entries k → (field : Field) (writing : Bool) (names : List ℕ)
     → fieldAccess field writing (noName ∷ names) H ≡ access (field .width) (field .guard) writing false
 unfolding entries fieldAccess firstName
 access-no-name k H g h field writing names = ap (access (field .width) (field .guard) writing) (no-name-held k H h g)
-
-pub callee-no-name : (k H : ℕ) → k ≤ noName → H < entries k → (names : List ℕ) (j : ℕ) → j < length names → getD names j 0 ≡ noName
-    → held (calleeSet H names) j ≡ false
-unfolding entries
-callee-no-name k H g h names j l e = held-callee H names j 0 l ∙ ap (held H) e ∙ no-name-held k H h g
 
 -- ---- a node by its op
 
@@ -154,87 +114,112 @@ access-order field writing names H H′ w = go (held H (firstName names)) (held 
     go false true f = access-held (field .width) (field .guard) writing
     go false false f = le-refl _
 
--- R relates held sets, the first within the second, and adding a name and mapping names keep it. a′ is to be nowhere above a, at
--- related sets of the methods that are called.
+-- R relates held sets, the first within the second. Two bodies differ at most in the names of their calls, which f and f′ change; a′ is to be
+-- nowhere above a.
 module _
     (p : Program)
     (R : ℕ → ℕ → Type 0)
     (R-within : (H H′ : ℕ) → R H H′ → Within H H′)
-    (R-add : (H H′ l : ℕ) → R H H′ → R (add H l) (add H′ l))
-    (R-callee : (H H′ : ℕ) (names : List ℕ) → R H H′ → R (calleeSet H names) (calleeSet H′ names))
+    (f f′ : List ℕ → List ℕ)
     (a a′ : Assignment)
   where
-    abbrev Ordered : Op → (U : ℕ) → Type 0
-    Ordered o U =
-        T (isCall o) → (S S′ : ℕ) → S < entries (methodAt p U .k) → S′ < entries (methodAt p U .k) → R S S′ → a′ U S′ ≤ a U S
+    -- a lock that is taken keeps sets related
+    abbrev LockKeeps : Op → Node → Type 0
+    LockKeeps o node =
+        o ≡ synchronised → (H H′ : ℕ) → R H H′ → R (add H (firstName (node .names))) (add H′ (firstName (node .names)))
+
+    -- a call's entries are ordered
+    abbrev EntryFalls : Op → Node → Type 0
+    EntryFalls o node =
+        T (isCall o) → (H H′ : ℕ) → R H H′
+        → calleeEntry (methodAt p (node .U) .k) (a′ (node .U)) (f′ (node .names)) H′
+        ≤ calleeEntry (methodAt p (node .U) .k) (a (node .U)) (f (node .names)) H
 
     abbrev Lower : (lower lower′ : ℕ → ℕ → ℕ) → ℕ → Type 0
     Lower lower lower′ c = (S S′ : ℕ) → R S S′ → lower′ c S′ ≤ lower c S
 
-    gradeBy-order : (lower lower′ : ℕ → ℕ → ℕ) → ((c S : ℕ) → lower′ c S ≤ error) → (o : Op) (node : Node) → Ordered o (node .U)
+    gradeBy-order : (lower lower′ : ℕ → ℕ → ℕ) → ((c S : ℕ) → lower′ c S ≤ error) → (o : Op) (node : Node) → LockKeeps o node → EntryFalls o node
         → All (Lower lower lower′) (listed o (node .X) (node .Y) (node .Z)) → (H H′ : ℕ) → R H H′
-        → gradeBy p a′ lower′ o node H′ ≤ gradeBy p a lower o node H
+        → gradeBy p a′ lower′ o (renamedBy o f′ node) H′ ≤ gradeBy p a lower o (renamedBy o f node) H
     unfolding whole
-    gradeBy-order l l′ e plainValue node f c H H′ r = le-refl _
-    gradeBy-order l l′ e read node f c H H′ r =
+    gradeBy-order l l′ e plainValue node g h c H H′ r = le-refl _
+    gradeBy-order l l′ e read node g h c H H′ r =
         compose-grows _ _ _ _ (c .0 H H′ r) (access-order (fieldAt p (node .U)) false (node .names) H H′ (R-within H H′ r))
-    gradeBy-order l l′ e write node f c H H′ r =
+    gradeBy-order l l′ e write node g h c H H′ r =
         compose-grows _ _ _ _ (compose-grows _ _ _ _ (c .0 H H′ r) (c .1 .0 H H′ r))
         (access-order (fieldAt p (node .U)) true (node .names) H H′ (R-within H H′ r))
-    gradeBy-order l l′ e sequence node f c H H′ r = compose-grows _ _ _ _ (c .0 H H′ r) (c .1 .0 H H′ r)
-    gradeBy-order l l′ e choice node f c H H′ r =
+    gradeBy-order l l′ e sequence node g h c H H′ r = compose-grows _ _ _ _ (c .0 H H′ r) (c .1 .0 H H′ r)
+    gradeBy-order l l′ e choice node g h c H H′ r =
         compose-grows _ _ _ _ (c .0 H H′ r) (join-grows _ _ _ _ (c .1 .0 H H′ r) (c .1 .1 .0 H H′ r))
-    gradeBy-order l l′ e loop node f c H H′ r =
+    gradeBy-order l l′ e loop node g h c H H′ r =
         compose-grows _ _ _ _ (c .0 H H′ r) (closure-grows _ _ (compose-grows _ _ _ _ (c .1 .0 H H′ r) (c .0 H H′ r)))
-    gradeBy-order l l′ e synchronised node f c H H′ r =
+    gradeBy-order l l′ e synchronised node g h c H H′ r =
         let name = firstName (node .names) in
         lock-order (not (held H name)) (not (held H′ name)) _ _
         (less-newly (held H name) (held H′ name) (R-within H H′ r name))
-        (c .0 (add H name) (add H′ name) (R-add H H′ name r)) (e _ _)
-    gradeBy-order l l′ e assertion node f c H H′ r = assert-grows _ _ (c .0 H H′ r)
-    gradeBy-order l l′ e call node f c H H′ r =
-        compose-grows _ _ _ _ (c .0 H H′ r)
-        (unfold calleeEntry in largest-order (a (node .U)) (a′ (node .U)) _ (λ S T q. f tt S T (q .0) (q .1) (q .2)) _ _
-        (matching-order R R-callee (methodAt p (node .U) .k) (node .names) H H′ r))
-    gradeBy-order l l′ e fork node f c H H′ r = compose-grows _ _ _ _ (c .0 H H′ r) (le-refl _)
-    gradeBy-order l l′ e noOp node f c H H′ r = le-refl _
+        (c .0 (add H name) (add H′ name) (g refl H H′ r)) (e _ _)
+    gradeBy-order l l′ e assertion node g h c H H′ r = assert-grows _ _ (c .0 H H′ r)
+    gradeBy-order l l′ e call node g h c H H′ r = compose-grows _ _ _ _ (c .0 H H′ r) (h tt H H′ r)
+    gradeBy-order l l′ e fork node g h c H H′ r = compose-grows _ _ _ _ (c .0 H H′ r) (le-refl _)
+    gradeBy-order l l′ e noOp node g h c H H′ r = le-refl _
 
-    -- in the tree of n the two bodies have the same nodes, and the callees' tables are ordered
+    -- in the tree of n the two bodies have the same nodes, but for their calls' names
     abbrev pub TreeOrdered : (nodes nodes′ : ℕ → Node) → (n : ℕ) → Type 0
     TreeOrdered nodes nodes′ n =
-        (j : ℕ) → InTree nodes n j → (nodes′ j ≡ nodes j) × Ordered (opOf (nodes j .op)) (nodes j .U)
+        (j : ℕ) → InTree nodes n j → (nodes′ j ≡ nodes j) × LockKeeps (opOf (nodes j .op)) (nodes j) × EntryFalls (opOf (nodes j .op)) (nodes j)
 
-    nodeGrade-order : (nodes nodes′ : ℕ → Node) (n : ℕ) (lower lower′ : ℕ → ℕ → ℕ) → ((c S : ℕ) → lower′ c S ≤ error)
-        → TreeOrdered nodes nodes′ n → ((c : ℕ) → TreeOrdered nodes nodes′ c → Lower lower lower′ c)
-        → (H H′ : ℕ) → R H H′ → nodeGrade p a′ lower′ (nodes′ n) H′ ≤ nodeGrade p a lower (nodes n) H
+    abbrev upper : (nodes : ℕ → Node) → ℕ → Node
+    upper nodes j = renamed f (nodes j)
+
+    abbrev lower : (nodes′ : ℕ → Node) → ℕ → Node
+    lower nodes′ j = renamed f′ (nodes′ j)
+
+    nodeGrade-order : (nodes nodes′ : ℕ → Node) (n : ℕ) (l l′ : ℕ → ℕ → ℕ) → ((c S : ℕ) → l′ c S ≤ error)
+        → TreeOrdered nodes nodes′ n → ((c : ℕ) → TreeOrdered nodes nodes′ c → Lower l l′ c)
+        → (H H′ : ℕ) → R H H′ → nodeGrade p a′ l′ (lower nodes′ n) H′ ≤ nodeGrade p a l (upper nodes n) H
     unfolding nodeGrade parts children
-    nodeGrade-order nodes nodes′ n lower lower′ e t l H H′ r =
-        let here : nodeGrade p a′ lower′ (nodes n) H′ ≤ nodeGrade p a lower (nodes n) H =
-        gradeBy-order lower lower′ e (opOf (nodes n .op)) (nodes n) (t n itself .1)
-        (all-among (Lower lower lower′) (children (nodes n)) (λ c m. l c (λ j s. t j (inside m s)))) H H′ r in
-        subst (λ (node : Node). nodeGrade p a′ lower′ node H′ ≤ nodeGrade p a lower (nodes n) H) (sym (t n itself .0)) here
+    nodeGrade-order nodes nodes′ n l l′ e t h H H′ r =
+        let here : nodeGrade p a′ l′ (lower nodes n) H′ ≤ nodeGrade p a l (upper nodes n) H =
+        gradeBy-order l l′ e (opOf (nodes n .op)) (nodes n) (t n itself .1) (t n itself .2)
+        (all-among (Lower l l′) (children (nodes n)) (λ c m. h c (λ j s. t j (inside m s)))) H H′ r in
+        subst (λ (node : Node). nodeGrade p a′ l′ (renamed f′ node) H′ ≤ nodeGrade p a l (upper nodes n) H) (sym (t n itself .0)) here
 
-    below-order : (nodes nodes′ : ℕ → Node) (n m : ℕ) → TreeOrdered nodes nodes′ m → Lower (below p a nodes n) (below p a′ nodes′ n) m
+    below-order : (nodes nodes′ : ℕ → Node) (n m : ℕ) → TreeOrdered nodes nodes′ m
+        → Lower (below p a (upper nodes) n) (below p a′ (lower nodes′) n) m
     unfolding below
     below-order nodes nodes′ zero m t H H′ r = le-refl _
     below-order nodes nodes′ (suc n) m t H H′ r = go (λ c. below-order nodes nodes′ n c) (eqb m n) refl
       where
-        go : ((c : ℕ) → TreeOrdered nodes nodes′ c → Lower (below p a nodes n) (below p a′ nodes′ n) c) → (b : Bool) → eqb m n ≡ b
-            → cond b (nodeGrade p a′ (below p a′ nodes′ n) (nodes′ n) H′) (below p a′ nodes′ n m H′)
-            ≤ cond b (nodeGrade p a (below p a nodes n) (nodes n) H) (below p a nodes n m H)
+        go : ((c : ℕ) → TreeOrdered nodes nodes′ c → Lower (below p a (upper nodes) n) (below p a′ (lower nodes′) n) c) → (b : Bool) → eqb m n ≡ b
+            → cond b (nodeGrade p a′ (below p a′ (lower nodes′) n) (lower nodes′ n) H′) (below p a′ (lower nodes′) n m H′)
+            ≤ cond b (nodeGrade p a (below p a (upper nodes) n) (upper nodes n) H) (below p a (upper nodes) n m H)
         go ih true e =
-            nodeGrade-order nodes nodes′ n (below p a nodes n) (below p a′ nodes′ n) (below-error p a′ nodes′ n)
+            nodeGrade-order nodes nodes′ n (below p a (upper nodes) n) (below p a′ (lower nodes′) n) (below-error p a′ (lower nodes′) n)
             (subst (TreeOrdered nodes nodes′) (eqb-true m n e) t) ih H H′ r
         go ih false e = ih m t H H′ r
 
     pub meaning-order : (nodes nodes′ : ℕ → Node) (n : ℕ) → TreeOrdered nodes nodes′ n → (H H′ : ℕ) → R H H′
-        → meaning p a′ nodes′ n H′ ≤ meaning p a nodes n H
+        → meaning p a′ (lower nodes′) n H′ ≤ meaning p a (upper nodes) n H
     unfolding meaning
     meaning-order nodes nodes′ n t H H′ r =
-        nodeGrade-order nodes nodes′ n (below p a nodes n) (below p a′ nodes′ n) (below-error p a′ nodes′ n) t
+        nodeGrade-order nodes nodes′ n (below p a (upper nodes) n) (below p a′ (lower nodes′) n) (below-error p a′ (lower nodes′) n) t
         (below-order nodes nodes′ n) H H′ r
 
 -- ---- the laws
+
+-- bodies whose calls keep their names
+unchanged : (nodes : ℕ → Node) → (λ (j : ℕ). renamed (λ names. names) (nodes j)) ≡ nodes
+unchanged nodes = fun-ext (λ j. ap (named (nodes j)) (either (isCall (opOf (nodes j .op))) (nodes j .names)))
+  where
+    named : Node → List ℕ → Node
+    named node names = record { op = node .op; X = node .X; Y = node .Y; Z = node .Z; U = node .U; names = names }
+
+    either : (b : Bool) (names : List ℕ) → cond b names names ≡ names
+    either true names = refl
+    either false names = refl
+
+pub equal-within : (H H′ : ℕ) → H ≡ H′ → Within H H′
+equal-within H H′ e = subst (Within H) e (within-refl H)
 
 -- under one held set: bodies that agree in the tree, tables that are ordered where it calls
 tree-order : (p : Program) (a a′ : Assignment) (nodes nodes′ : ℕ → Node) (n H : ℕ)
@@ -243,12 +228,19 @@ tree-order : (p : Program) (a a′ : Assignment) (nodes nodes′ : ℕ → Node)
     × (T (isCall (opOf (nodes j .op))) → (S : ℕ) → S < entries (methodAt p (nodes j .U) .k) → a′ (nodes j .U) S ≤ a (nodes j .U) S))
     → meaning p a′ nodes′ n H ≤ meaning p a nodes n H
 tree-order p a a′ nodes nodes′ n H h =
-    meaning-order p _≡_ equal-within (λ F G l. ap (λ (K : ℕ). add K l)) (λ F G names. ap (λ (K : ℕ). calleeSet K names)) a a′ nodes
-    nodes′ n
-    (λ j t. (h j t .0, λ c S S′ s s′ e. subst (λ (K : ℕ). a′ (nodes j .U) K ≤ a (nodes j .U) S) e (h j t .1 c S s))) H H refl
-  where
-    equal-within : (F G : ℕ) → F ≡ G → Within F G
-    equal-within F G e = subst (Within F) e (within-refl F)
+    subst (λ (body : ℕ → Node). meaning p a′ body n H ≤ meaning p a nodes n H) (unchanged nodes′)
+    (subst (λ (body : ℕ → Node). meaning p a′ (λ j. renamed (λ names. names) (nodes′ j)) n H ≤ meaning p a body n H) (unchanged nodes)
+    (meaning-order p _≡_ equal-within (λ names. names) (λ names. names) a a′ nodes nodes′ n
+    (λ j t. (
+      h j t .0,
+      λ s F G. ap (λ (K : ℕ). add K (firstName (nodes j .names))),
+      λ c F G e.
+          subst
+          (λ (K : ℕ).
+          calleeEntry (methodAt p (nodes j .U) .k) (a′ (nodes j .U)) (nodes j .names) K
+          ≤ calleeEntry (methodAt p (nodes j .U) .k) (a (nodes j .U)) (nodes j .names) F)
+          e (entry-grows (methodAt p (nodes j .U) .k) (nodes j .names) F (a (nodes j .U)) (a′ (nodes j .U)) (h j t .1 c)),
+    )) H H refl))
 
 -- "grows with the tables"
 pub meaning-grows : (p : Program) (a a′ : Assignment) (nodes : ℕ → Node) (n H : ℕ) → ((m S : ℕ) → a′ m S ≤ a m S)
@@ -260,8 +252,14 @@ pub meaning-antitone : (p : Program) (a : Assignment) (nodes : ℕ → Node) (n 
     → ((m S S′ : ℕ) → S < entries (methodAt p m .k) → S′ < entries (methodAt p m .k) → Within S S′ → a m S′ ≤ a m S)
     → (H H′ : ℕ) → Within H H′ → meaning p a nodes n H′ ≤ meaning p a nodes n H
 meaning-antitone p a nodes n h H H′ w =
-    meaning-order p Within (λ F G r. r) add-respects callee-respects a a nodes nodes n
-    (λ j t. (refl, λ c S S′ s s′ r. h (nodes j .U) S S′ s s′ r)) H H′ w
+    subst (λ (body : ℕ → Node). meaning p a body n H′ ≤ meaning p a body n H) (unchanged nodes)
+    (meaning-order p Within (λ F G r. r) (λ names. names) (λ names. names) a a nodes nodes n
+    (λ j t. (
+      refl,
+      λ s F G. add-respects F G (firstName (nodes j .names)),
+      λ c F G.
+          entry-falls (methodAt p (nodes j .U) .k) (nodes j .names) F G (a (nodes j .U)) (a (nodes j .U)) (h (nodes j .U)),
+    )) H H′ w)
 
 -- what a node's grade depends on: two bodies have the same node j, and two assignments the same table of the method that it calls, if it
 -- calls one

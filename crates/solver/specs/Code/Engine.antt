@@ -1,7 +1,7 @@
 -- The engine's own view: checked tables read as a program, flat tables of grades read as an assignment, and a node put together from
 -- children that are worked out alike.
 -- Assumes nothing.
-use Prim.Native.Nat.{ℕ, zero, suc, _+_, _*_, _≤_, _<_}
+use Prim.Native.Nat.{ℕ, zero, suc, _+_, _*_, _^_, _≤_, _<_}
 use mathlib.Core.Bool.{Bool, true, false, cond}
 use mathlib.Core.List.{List, [], _∷_}
 use mathlib.Core.Path.{_≡_}
@@ -36,6 +36,10 @@ LocksFit t = (j : ℕ) → firstNodeFrame t ≤ j → j < lastFrame t → nodeIn
 -- flat tables read as an assignment: "entry number h of method m at 16m + h"
 unfoldable pub tablesIn : List ℕ → Assignment
 tablesIn g m H = cond (ltb H (layout .grades)) (getD g (layout .grades * m + H) 0) 0
+
+-- a callee's table at the sets whose names below j are those in a set, by what the sets have from name j on
+abbrev pub entriesFrom : (table : ℕ → ℕ) → (j inside : ℕ) → ℕ → ℕ
+entriesFrom table j inside S = table (inside + S * 2 ^ j)
 
 -- a number that no child has
 abbrev pub noChild : ℕ

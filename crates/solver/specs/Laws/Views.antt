@@ -1,24 +1,28 @@
 -- The program that checked tables stand for, seen at one field, method, node or name: what `frames` reads off the tables is what
 -- `meaning` asks of the program.
 -- Assumes nothing.
-use Prim.Native.Nat.{ℕ, zero, suc, _+_, _≤_, _<_, _^_, min, pred}
-use mathlib.Core.Bool.{Bool, true, false}
+use Prim.Native.Nat.{ℕ, zero, suc, _+_, _*_, _≤_, _<_, _^_, min, max}
+use mathlib.Core.Bool.{Bool, true, false, cond}
 use mathlib.Core.List.{List, [], _∷_}
-use mathlib.Core.Path.{_≡_, refl, sym, ap, ap₂, _∙_}
+use mathlib.Core.Path.{_≡_, refl, sym, ap, ap₂, _∙_, fun-ext}
 use native.Mathlib.Omega.{arith}
-use lib.ListN.{length, getD, take, length-take}
-use lib.Seq.{take-all}
+use native.Mathlib.Nat.{pow-suc, add-mul, mul-assoc, mul-comm}
+use native.Mathlib.Numerals.{add-one}
+use borrow.Author.Tests.{ne-eqb}
+use lib.Dec.{eqb}
+use lib.ListN.{length, getD, take, drop, drop-of-length-le}
+use lib.Seq.{take-all, drop-cons}
 use Rattle.frames.specs.Layout.{layout}
 use Rattle.grades.specs.Grades.{error}
 use Rattle.grades.specs.Access.{readAccess, writeAccess, access}
-use Rattle.grades.specs.HeldSets.{maskNames, held, calleeSet}
+use Rattle.grades.specs.HeldSets.{held, noName}
 use Rattle.frames.specs.Program.{Field, noField, noMethod, fieldAt, methodAt}
 use Rattle.frames.specs.Frames.{methodsIn, fieldsIn, fieldFrame}
 use Rattle.frames.specs.Tables.{cell, fieldOf, methodOf, programOf}
-use Rattle.meaning.specs.Meaning.{firstName, fieldAccess, calleeEntry, Assignment}
-use Rattle.meaning.specs.Laws.Meaning.{calleeEntry-at}
+use Rattle.meaning.specs.Meaning.{firstName, fieldAccess, matching, largest, calleeEntry, Assignment}
+use Rattle.meaning.specs.Laws.Calls.{over-none, over-unnamed, over-named}
 use Rattle.meaning.specs.Lowest.{methodCount}
-use Rattle.solver.specs.Code.Engine.{nodeIn}
+use Rattle.solver.specs.Code.Engine.{nodeIn, entriesFrom}
 use Rattle.counting.specs.Counting.{tabulate}
 use Rattle.counting.specs.Laws.Lists.{length-tabulate, getD-tabulate, getD-past-tabulate}
 use Rattle.solver.specs.Flat.{programIn}
@@ -71,13 +75,6 @@ take-few (suc (suc (suc (suc k)))) a b c d =
     let four : min (suc (suc (suc (suc k)))) 4 ≡ 4 = omega arith in
     ap (λ (n : ℕ). take n (a ∷ b ∷ c ∷ d ∷ [])) four ∙ sym (take-all (suc (suc (suc (suc k)))) (a ∷ b ∷ c ∷ d ∷ []) (omega arith))
 
--- the callee's set of so many names in a mask
-pub callee-few : (H k a b c d : ℕ) (names : List ℕ) → names ≡ take (min k (layout .names)) (a ∷ b ∷ c ∷ d ∷ [])
-    → calleeSet H (take maskNames names) ≡ calleeSet H (take k (a ∷ b ∷ c ∷ d ∷ []))
-callee-few H k a b c d names e =
-    let few : length names ≡ min (min k 4) (layout .names) = ap length e ∙ length-take (min k (layout .names)) (a ∷ b ∷ c ∷ d ∷ []) in
-    ap (calleeSet H) (take-all maskNames names (omega arith) ∙ e ∙ take-few k a b c d)
-
 -- an access, from what was read off the tables
 pub access-read : (t : List ℕ) (j u w g name r : ℕ) (write inside : Bool) (H : ℕ) → u ≡ nodeIn t j .U → u < fieldsIn (cell t)
     → w ≡ fieldOf (fieldFrame (cell t) u) .width → g ≡ fieldOf (fieldFrame (cell t) u) .guard → name ≡ getD (nodeIn t j .names) 0 0
@@ -91,17 +88,62 @@ access-read t j u w g name r write inside H eu within ew eg en ei er =
     er ∙ ap₂ (λ (x y : ℕ). access x y write inside) (sym width) (sym guard)
     ∙ ap (access (fieldAt (programIn t) (nodeIn t j .U) .width) (fieldAt (programIn t) (nodeIn t j .U) .guard) write) lock
 
--- a callee's entry, from what was read off the tables
-pub entry-read : (t : List ℕ) (a : Assignment) (j u k n0 n1 n2 n3 S r H : ℕ) (names : List ℕ) → u ≡ nodeIn t j .U
+-- ---- a callee's entries, one name at a time
+
+-- a set of the names below j, with an answer for name j, is one of the names below j + 1
+pub answered-below : (j inside r : ℕ) (b : Bool) → inside < 2 ^ j → r ≡ inside + cond b 1 0 * 2 ^ j → r < 2 ^ (j + 1)
+answered-below j inside r b h e = go b e (ap (λ (n : ℕ). 2 ^ n) (add-one j) ∙ pow-suc 2 j)
+  where
+    go : (b : Bool) → r ≡ inside + cond b 1 0 * 2 ^ j → 2 ^ (j + 1) ≡ 2 ^ j * 2 → r < 2 ^ (j + 1)
+    go true e d = omega arith
+    go false e d = omega arith
+
+module _ (table : ℕ → ℕ) (names : List ℕ) (H j inside : ℕ) where
+  -- the entries where the name j has an answer
+  abbrev pub entriesAfter : Bool → ℕ
+  entriesAfter b = largest (entriesFrom table (j + 1) (inside + cond b 1 0 * 2 ^ j)) (matching (drop (j + 1) names) H)
+
+  answer-put : (b : Bool) → entriesFrom table (j + 1) (inside + cond b 1 0 * 2 ^ j) ≡ (λ (S : ℕ). entriesFrom table j inside (cond b 1 0 + S * 2))
+  answer-put b = fun-ext (λ S. ap table (ap (λ (n : ℕ). inside + cond b 1 0 * 2 ^ j + S * n) (ap (λ (n : ℕ). 2 ^ n) (add-one j) ∙ pow-suc 2 j) ∙ together S (cond b 1 0) (2 ^ j)))
+    where
+      together : (S c n : ℕ) → inside + c * n + S * (n * 2) ≡ inside + (c + S * 2) * n
+      together S c n =
+          omega (arith, add-mul c (S * 2) n, mul-assoc S n 2, mul-assoc S 2 n, ap (λ (m : ℕ). S * m) (mul-comm n 2))
+
+  pub entries-end : length names ≤ j → largest (entriesFrom table j inside) (matching (drop j names) H) ≡ table inside
+  entries-end h =
+      ap (λ (l : List ℕ). largest (entriesFrom table j inside) (matching l H)) (drop-of-length-le names h)
+      ∙ over-none (entriesFrom table j inside) H ∙ ap table (omega arith)
+
+  step : j < length names → drop j names ≡ getD names j 0 ∷ drop (j + 1) names
+  step h = drop-cons names j 0 h ∙ ap (λ (n : ℕ). getD names j 0 ∷ drop n names) (sym (add-one j))
+
+  pub entries-unnamed : j < length names → getD names j 0 ≡ noName
+      → largest (entriesFrom table j inside) (matching (drop j names) H) ≡ max (entriesAfter false) (entriesAfter true)
+  entries-unnamed h e =
+      ap (λ (l : List ℕ). largest (entriesFrom table j inside) (matching l H)) (step h)
+      ∙ over-unnamed (entriesFrom table j inside) (getD names j 0) (drop (j + 1) names) H (ap (λ (t : ℕ). eqb t noName) e)
+      ∙ ap₂ (λ (f g : ℕ → ℕ). max (largest f (matching (drop (j + 1) names) H)) (largest g (matching (drop (j + 1) names) H))) (sym (answer-put false)) (sym (answer-put true))
+
+  pub entries-named : j < length names → (getD names j 0 ≡ noName → ⊥)
+      → largest (entriesFrom table j inside) (matching (drop j names) H) ≡ entriesAfter (held H (getD names j 0))
+  entries-named h e =
+      ap (λ (l : List ℕ). largest (entriesFrom table j inside) (matching l H)) (step h)
+      ∙ over-named (entriesFrom table j inside) (getD names j 0) (drop (j + 1) names) H (ne-eqb (getD names j 0) noName e)
+      ∙ ap (λ (f : ℕ → ℕ). largest f (matching (drop (j + 1) names) H)) (sym (answer-put (held H (getD names j 0))))
+
+-- a callee's entry, from what was read off the tables: of the names that the callee takes
+pub entry-read : (t : List ℕ) (a : Assignment) (j u k n0 n1 n2 n3 r H : ℕ) (names : List ℕ) → u ≡ nodeIn t j .U
     → k ≡ min (methodAt (programIn t) u .k) (layout .names)
     → n0 ≡ getD (nodeIn t j .names) 0 0 → n1 ≡ getD (nodeIn t j .names) 1 0 → n2 ≡ getD (nodeIn t j .names) 2 0 → n3 ≡ getD (nodeIn t j .names) 3 0
-    → names ≡ take k (n0 ∷ n1 ∷ n2 ∷ n3 ∷ []) → S ≡ calleeSet H (take maskNames names) → r ≡ a u S
+    → names ≡ take k (n0 ∷ n1 ∷ n2 ∷ n3 ∷ []) → r ≡ largest (entriesFrom (a u) 0 0) (matching (drop 0 names) H)
     → r ≡ calleeEntry (methodAt (programIn t) (nodeIn t j .U) .k) (a (nodeIn t j .U)) (nodeIn t j .names) H
-entry-read t a j u k n0 n1 n2 n3 S r H names eu ek e0 e1 e2 e3 en eS er =
+unfolding calleeEntry
+entry-read t a j u k n0 n1 n2 n3 r H names eu ek e0 e1 e2 e3 en er =
     let same : nodeIn t j .names ≡ n0 ∷ n1 ∷ n2 ∷ n3 ∷ [] = four-names t j ∙ (cc) in
-    let few : names ≡ take (min (methodAt (programIn t) u .k) (layout .names)) (n0 ∷ n1 ∷ n2 ∷ n3 ∷ []) = en ∙ ap (λ (i : ℕ). take i (n0 ∷ n1 ∷ n2 ∷ n3 ∷ [])) ek in
-    let set : S ≡ calleeSet H (take (methodAt (programIn t) u .k) (nodeIn t j .names))
-    = eS ∙ callee-few H (methodAt (programIn t) u .k) n0 n1 n2 n3 names few ∙ ap (λ (l : List ℕ). calleeSet H (take (methodAt (programIn t) u .k) l)) (sym same) in
-    er ∙ ap (a u) set
-    ∙ sym (calleeEntry-at (methodAt (programIn t) u .k) (a u) (nodeIn t j .names) H)
-    ∙ ap (λ (v : ℕ). calleeEntry (methodAt (programIn t) v .k) (a v) (nodeIn t j .names) H) eu
+    let taken : names ≡ take (methodAt (programIn t) u .k) (nodeIn t j .names)
+    = en ∙ ap (λ (i : ℕ). take i (n0 ∷ n1 ∷ n2 ∷ n3 ∷ [])) ek ∙ take-few (methodAt (programIn t) u .k) n0 n1 n2 n3
+    ∙ ap (take (methodAt (programIn t) u .k)) (sym same) in
+    let whole : entriesFrom (a u) 0 0 ≡ a u = fun-ext (λ S. ap (a u) (omega arith)) in
+    er ∙ ap₂ (λ (table : ℕ → ℕ) (l : List ℕ). largest table (matching l H)) whole taken
+    ∙ ap (λ (v : ℕ). largest (a v) (matching (take (methodAt (programIn t) v .k) (nodeIn t j .names)) H)) eu
