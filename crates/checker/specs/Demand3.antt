@@ -15,8 +15,7 @@ use Rattle.grades.specs.HeldSets.{Within}
 use Rattle.meaning.specs.Meaning.{Assignment}
 use Rattle.meaning.specs.Lowest.{NoWorse, methodCount, entryCount}
 use Rattle.meaning.specs.Constraints.{Answer, accepted, refused, answer, entryOf}
-use Rattle.meaning.specs.Changes.{StruckOut, WrittenBack}
-use Rattle.meaning.specs.Changes.{DeclaredAntitone}
+use Rattle.meaning.specs.Changes.{StruckOut, WrittenBack, DeclaredAntitone}
 use Rattle.meaning.specs.Demand3.{demand-3}
 use Rattle.solver.specs.Flat.{flat}
 use Rattle.solver.specs.Laws.Flat.{flat-length, flat-at, flat-entry}

@@ -1,17 +1,14 @@
 -- What the shifts and masks of `src/held.rt` come to, in the words of `HeldSets`.
 -- Assumes nothing.
 use Prim.Native.Nat.{ℕ, zero, suc, _+_, _*_, _/_, _%_, _^_, _<_, max}
-use mathlib.Core.Bool.{Bool, true, false, cond}
-use mathlib.Core.List.{List, [], _∷_}
-use mathlib.Core.Path.{_≡_, refl, sym, ap, ap₂, _∙_, subst}
-use native.Mathlib.Nat.{pow-suc, one-mul, max-zero, mod-lt, mod-eq-of-lt, le-of-suc-le-suc, not-suc-le-zero, le-trans}
+use mathlib.Core.Path.{_≡_, ap, ap₂, _∙_}
+use native.Mathlib.Nat.{pow-suc, one-mul, max-zero, mod-lt, mod-eq-of-lt}
 use native.Mathlib.Omega.{arith}
 use lib.Bits.{bitAnd, bitOr, and-mask, or-step, or-zero-r}
 use lib.Dec.{eqb}
-use lib.ListN.{length, getD, take}
-use lib.Pow.{pow-pos, pow-lt, pow-mono}
+use lib.Pow.{pow-pos, pow-lt}
 use Rattle.grades.specs.HeldSets.{held, add}
-use Rattle.grades.specs.Laws.HeldSets.{none-held, from-halves, add-zero-half, add-zero-odd, add-suc-half, add-suc-odd, add-free, bit-before}
+use Rattle.grades.specs.Laws.HeldSets.{from-halves, add-zero-half, add-zero-odd, add-suc-half, add-suc-odd}
 
 -- the lowest bit of a shifted set
 pub shifted-bit : (H j : ℕ) → eqb (bitAnd (H / 2 ^ j) 1) 1 ≡ held H j

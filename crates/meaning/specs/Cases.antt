@@ -14,6 +14,7 @@ use Rattle.meaning.specs.Meaning.{rootOf, opOf, children, firstName, fie
 use Rattle.counting.specs.Counting.{every, first, upTo}
 use Rattle.meaning.specs.Lowest.{methodCount, entryCount, isEntry, onEntries, start, round, after, same, settled, openEntries, roundsFrom, lowestFrom, isDeclared, declaredTable, declarations, rounds, lowest}
 use Rattle.meaning.specs.Constraints.{declaredRoot, mainTable, forkedTable, namedMethod, forkAt, forksOf, closedOf, closedOfAll, closed, brokenSet, isBroken, firstBroken, finding, accepted, refused, tablesOf, answer}
+use Rattle.meaning.specs.NotHeld.{asNotHeld}
 
 -- ---- nodes and methods as the cases write them
 
@@ -246,6 +247,8 @@ pub record WorkedCases : Type 0 where
   pub loop-operands : answer waits ≡ accepted 1 ((3 ∷ []) ∷ [])
   -- P13 as a whole program
   pub supplier : answer supplied ≡ accepted 1 ((3 ∷ []) ∷ (1 ∷ 3 ∷ []) ∷ [])
+  -- which 01, with the lock not held, lets pass as a mover
+  pub supplier-by-01 : answer (asNotHeld 0xFE supplied) ≡ accepted 1 ((1 ∷ []) ∷ (1 ∷ 3 ∷ []) ∷ [])
   -- each FF is chosen apart: the largest entry stands where the one lock is held and the other is not
   pub chosen-apart : calling 0 2 (noName ∷ noName ∷ []) (0 ∷ 3 ∷ 1 ∷ 2 ∷ []) ≡ 3 ∷ []
   pub chosen-apart-too : calling 0 2 (noName ∷ noName ∷ []) (0 ∷ 1 ∷ 3 ∷ 2 ∷ []) ≡ 3 ∷ []
@@ -258,7 +261,7 @@ unfolding
     noField plainNode noMethod fieldAt methodAt nodeAt rootOf opOf children firstName fieldAccess allowed choices matching largest calleeEntry parts
     whole nodeGrade below meaning rootTable every first methodCount entryCount isEntry onEntries start round after same settled openEntries
     roundsFrom lowestFrom isDeclared declaredTable declarations rounds lowest namedMethod forkAt forksOf closedOf closedOfAll closed
-    brokenSet isBroken firstBroken finding tablesOf answer
+    brokenSet isBroken firstBroken finding tablesOf answer asNotHeld
 worked-cases =
     record {
       session-accepted = refl;
@@ -278,6 +281,7 @@ worked-cases =
       access-operands = refl;
       loop-operands = refl;
       supplier = refl;
+      supplier-by-01 = refl;
       chosen-apart = refl;
       chosen-apart-too = refl;
       beside-a-name = refl;

@@ -11,3 +11,6 @@ pub mod Changed
 pub mod Tree
 pub mod SameRoots
 pub mod Unnamed
+pub mod NotHeldCalls
+pub mod NotHeld
+pub mod NeverHeld

@@ -14,7 +14,7 @@ use Rattle.meaning.specs.Meaning.{Op, synchronised, opOf, firstName, cal
 use Rattle.meaning.specs.Tree.{isCall}
 use Rattle.meaning.specs.Lowest.{NoWorse, rounds, lowest}
 use Rattle.meaning.specs.Constraints.{accepted, tablesOf, answer}
-use Rattle.meaning.specs.Changes.{changeMethods, DeclaredAntitone}
+use Rattle.meaning.specs.Changes.{DeclaredAntitone}
 
 -- ---- one call
 
@@ -57,10 +57,12 @@ abbrev pub calledBy : (l : ℕ) → List ℕ → List ℕ
 calledBy l names = map (λ name. cond (eqb name noName) l name) names
 
 -- the program with the name l for FF at each call. Where nothing ever holds l, this is the program as 01 reads it.
+abbrev pub methodAsNotHeld : (l : ℕ) → Method → Method
+methodAsNotHeld l x =
+    record { k = x .k; declared = x .declared; table = x .table; nodes = map (renamed (calledBy l)) (x .nodes) }
+
 unfoldable pub asNotHeld : (l : ℕ) → Program → Program
-asNotHeld l p =
-    changeMethods
-    (λ m x. record { k = x .k; declared = x .declared; table = x .table; nodes = map (renamed (calledBy l)) (x .nodes) }) p
+asNotHeld l p = record { fields = p .fields; methods = map (methodAsNotHeld l) (p .methods) }
 
 -- nothing ever holds l: it is no method's name, no node is synchronised on it, and it is not FF itself
 pub record NeverHeld (p : Program) (l : ℕ) : Type 0 where

@@ -1,10 +1,10 @@
 -- The laws of counting below a bound.
 -- Assumes nothing.
 use Prim.Native.Nat.{ℕ, zero, suc, _+_, _*_, _≤_, _<_}
-use mathlib.Core.Bool.{Bool, true, false, not, _&&_}
+use mathlib.Core.Bool.{Bool, true, false, not, _&&_, cond}
 use mathlib.Core.List.{List, [], _∷_, _++_}
 use mathlib.Core.Logic.{⊎-elim}
-use mathlib.Core.Path.{_≡_, refl, sym, ap, _∙_, subst}
+use mathlib.Core.Path.{_≡_, refl, sym, ap, ap₂, _∙_, subst}
 use native.Mathlib.Nat.{not-suc-le-zero, le-of-suc-le-suc, le-refl}
 use native.Mathlib.Numerals.{add-one}
 use native.Mathlib.Omega.{arith}
@@ -50,6 +50,14 @@ first-unique n f i h t least = go (decLt i (first n f)) (decLt (first n f) i)
     go (yes g) d = absurd (clash (f i) t (first-least n f i g))
     go (no g) (yes l) = absurd (clash (f (first n f)) (first-passes n f (omega arith)) (least (first n f) l))
     go (no g) (no l) = omega arith
+
+-- tests that agree below n pass first at one number
+pub first-same : (n : ℕ) (f g : ℕ → Bool) → ((i : ℕ) → i < n → f i ≡ g i) → first n f ≡ first n g
+unfolding first
+first-same zero f g h = refl
+first-same (suc n) f g h =
+    ap₂ (λ (b : Bool) (later : ℕ). cond b zero (suc later)) (h zero (omega arith))
+    (first-same n (λ i. f (suc i)) (λ i. g (suc i)) (λ i l. h (suc i) (omega arith)))
 
 -- ---- tests at each number below n
 

@@ -66,10 +66,14 @@ module _ (p : Program) (g : Givens)
               (root-falls p (after p g n) (after-antitone n) i H H′ w);
         })) m
 
+-- the tables after each round of a text's own, and so the lowest ones
+pub rounds-antitone : (p : Program) → DeclaredAntitone p → (n m : ℕ) → AntitoneAt p (after p (declarations p) n) m
+unfolding declarations
+rounds-antitone p h = after-antitone p (declarations p) h (λ i d t. record { falls = λ H H′ l l′ w. le-refl const })
+
 pub lowest-antitone : (p : Program) → DeclaredAntitone p → (m : ℕ) → AntitoneAt p (lowest p) m
-unfolding lowest lowestFrom declarations
-lowest-antitone p h m =
-    after-antitone p (declarations p) h (λ i d t. record { falls = λ H H′ l l′ w. le-refl const }) (roundsFrom p (declarations p)) m
+unfolding lowest lowestFrom
+lowest-antitone p h = rounds-antitone p h (roundsFrom p (declarations p))
 
 -- ---- closed constraints carried over
 

@@ -3,13 +3,11 @@
 -- Assumes nothing.
 use Prim.Native.Nat.{ℕ, zero, suc, _≤_, _<_}
 use mathlib.Core.Bool.{Bool, true, false, not, cond}
-use mathlib.Core.List.{List, [], _∷_, _++_, map}
-use mathlib.Core.Path.{_≡_, refl, sym, ap, _∙_, subst, fun-ext}
-use native.Mathlib.Nat.{not-suc-le-zero, le-refl, le-of-eq, le-antisymm, lt-of-lt-of-le}
+use mathlib.Core.List.{List, _∷_, _++_, map}
+use mathlib.Core.Path.{_≡_, refl, sym, ap, subst, fun-ext}
+use native.Mathlib.Nat.{not-suc-le-zero, le-refl, le-of-eq, le-antisymm}
 use native.Mathlib.Omega.{arith}
 use lib.Dec.{T, eqb, eqb→eq, eqb-refl, T-not}
-use lib.ListN.{length, getD, take, length-take}
-use lib.Pow.{pow-mono}
 use borrow.Author.Tests.{eqb-true}
 use Rattle.grades.specs.Grades.{const, error, lockTaken}
 use Rattle.grades.specs.Laws.Grades.{cap-grade, compose-grows, compose-error, join-grows, closure-grows, assert-grows, assert-error, lockTaken-grows, lockTaken-above, lockTaken-error}
@@ -207,8 +205,8 @@ module _
 
 -- ---- the laws
 
--- bodies whose calls keep their names
-unchanged : (nodes : ℕ → Node) → (λ (j : ℕ). renamed (λ names. names) (nodes j)) ≡ nodes
+-- a body whose calls keep their names
+pub unchanged : (nodes : ℕ → Node) → (λ (j : ℕ). renamed (λ names. names) (nodes j)) ≡ nodes
 unchanged nodes = fun-ext (λ j. ap (named (nodes j)) (either (isCall (opOf (nodes j .op))) (nodes j .names)))
   where
     named : Node → List ℕ → Node

@@ -5,7 +5,7 @@ use Prim.Native.Nat.{ℕ, pred, _<_}
 use mathlib.Core.Bool.{Bool, true, false, not, _||_}
 use mathlib.Core.List.{List, _∷_}
 use mathlib.Core.Logic.{_⊎_, inl, inr}
-use mathlib.Core.Path.{_≡_, refl, sym, ap, ap₂, _∙_, subst, fun-ext}
+use mathlib.Core.Path.{_≡_, refl, sym, ap, ap₂, _∙_, subst}
 use native.Mathlib.Decide.{decLt}
 use native.Mathlib.Omega.{arith}
 use lib.Dec.{T, leb, eqb, T-not}
@@ -21,14 +21,14 @@ use Rattle.meaning.specs.Laws.Meaning.{meaning-tree}
 use Rattle.meaning.specs.Tree.{itself}
 use Rattle.counting.specs.Counting.{All}
 use Rattle.counting.specs.Laws.Counting.{all-right}
-use Rattle.meaning.specs.Lowest.{Givens, methodCount, entryCount, isDeclared, declaredTable, declarations, rounds, lowest, roundsFrom, lowestFrom}
+use Rattle.meaning.specs.Lowest.{methodCount, entryCount, isDeclared, declaredTable, declarations, rounds, lowest, roundsFrom, lowestFrom}
 use Rattle.meaning.specs.Constraints.{Closed, declaredRoot, mainTable, forkedTable, methodOf, kindOf, nodeOf, namedMethod, isFork, forkAt, Met, holdsAt, closed, accepted, refused, answer, tablesOf}
 use Rattle.meaning.specs.Laws.Constraints.{closed-met, all-closed}
 use Rattle.meaning.specs.Laws.Answers.{when-accepted, RefusedBy, when-refused, either-answer}
 use Rattle.meaning.specs.Changes.{changeMethods}
 use Rattle.meaning.specs.Laws.Changed.{changed, changed-count, changed-at, changed-past}
 use Rattle.meaning.specs.Laws.Declarations.{same-meaning, same-entries, same-tables}
-use Rattle.meaning.specs.Laws.SameRoots.{same-rounds, same-lowest}
+use Rattle.meaning.specs.Laws.SameRoots.{same-rounds, same-lowest, same-declarations}
 use Rattle.meaning.specs.Unnamed.{Unnamed, Aside, ChangedAside, ForkRefused, NoEffect, putNode, changeNode}
 use Rattle.meaning.specs.Laws.Tree.{none-aside}
 
@@ -51,21 +51,17 @@ module _ (p q : Program) (w : WellFormed p) (s : ChangedAside p q) where
   aside-declared m H = ap (λ (t : List ℕ). getD t H const) (s .table m)
 
   aside-declarations : declarations q ≡ declarations p
-  unfolding declarations
-  aside-declarations = ap₂ givens (fun-ext (s .declared)) (fun-ext (λ m. fun-ext (aside-declared m)))
-    where
-      givens : (ℕ → Bool) → Assignment → Givens
-      givens fixed tables = record { fixed = fixed; tables = tables; floor = λ m H. const }
+  aside-declarations = same-declarations p q (s .declared) aside-declared
 
   aside-lowest : lowest q ≡ lowest p
   unfolding lowest
   aside-lowest =
-      ap (lowestFrom q) aside-declarations ∙ same-lowest p q (s .count) (same-entries p q (s .count) (s .k)) aside-root (declarations p)
+      ap (lowestFrom q) aside-declarations ∙ same-lowest p q (s .count) (same-entries p q (s .count) (s .k)) (declarations p) (λ n m H t. aside-root _ m H)
 
   aside-rounds : rounds q ≡ rounds p
   unfolding rounds
   aside-rounds =
-      ap (roundsFrom q) aside-declarations ∙ same-rounds p q (s .count) (same-entries p q (s .count) (s .k)) aside-root (declarations p)
+      ap (roundsFrom q) aside-declarations ∙ same-rounds p q (s .count) (same-entries p q (s .count) (s .k)) (declarations p) (λ n m H t. aside-root _ m H)
 
   -- ---- the closed constraints: but for forks that were put there, q has those of p
 

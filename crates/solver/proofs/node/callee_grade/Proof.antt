@@ -1,9 +1,8 @@
 -- `solver::node::callee_grade` meets its contract: the names that the callee takes decide its sets, of which none has an answer yet.
 -- Assumes nothing.
-use mathlib.Core.Path.{_≡_, refl, sym, ap, ap₂, _∙_}
+use mathlib.Core.Path.{refl, _∙_}
 use native.Mathlib.Omega.{arith}
-use Prim.Native.Nat.{ℕ, min}
-use lib.ListN.{length, take, length-take}
+use lib.ListN.{length-take}
 use lib.Pow.{pow-pos}
 use denote.Ref.{now}
 use Rattle.solver.specs.Code.Engine.{tablesIn}
