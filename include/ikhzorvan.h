@@ -1,7 +1,8 @@
 /* The proved checker of atomicity, for C.
  *
  * A program comes as a text of frames. Each method is graded for each set of its lock names that its caller may hold:
- * const 0, mover 1, atomic 2, cmpd 3 or error 4. `harness/install PREFIX` installs this header, libikhzorvan.a and a
+ * const 0, mover 1, atomic 2, cmpd 3 or error 4. A lock that a call has no name for, FF, may be held or not: the worst of the
+ * callee's grades counts, over all choices for such locks. `harness/install PREFIX` installs this header, libikhzorvan.a and a
  * pkg-config file: `cc program.c $(pkg-config --cflags --libs ikhzorvan)`.
  *
  * Each pointer must be good for as many bytes as the length after it says, and no two of them may overlap. Before a length of

@@ -1,4 +1,4 @@
--- The cases of document 01's "Proved cases" that arithmetic decides. They are one part of the joint statement P1 to P12.
+-- The cases of document 01's "Proved cases" that arithmetic decides. They are one part of the joint statement P1 to P13.
 -- Assumes nothing.
 use mathlib.Core.Path.{_≡_, refl}
 use Rattle.grades.specs.Grades.{mover, atomic, cmpd, error, cap, composition, compose, closure, assertAtomic}

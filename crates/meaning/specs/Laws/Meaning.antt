@@ -1,5 +1,6 @@
--- What is known of a node's meaning. One order proof serves two laws: over equal sets the meaning grows with the tables, and over sets
--- of which one lies within the other it is antitone where the tables are. It looks only at the tree of the node.
+-- What is known of a node's meaning. One order proof serves several laws: over equal sets the meaning grows with the tables; over sets of which
+-- one lies within the other it is antitone where the tables are; and with other names in calls it follows the callees' entries. It looks only at
+-- the tree of the node.
 -- Assumes nothing.
 use Prim.Native.Nat.{ℕ, zero, suc, _≤_, _<_}
 use mathlib.Core.Bool.{Bool, true, false, not, cond}
