@@ -1,7 +1,7 @@
 //! Reading a text: frames, and refusals 3 to 6 in their order.
 
 use crate::grade::Grade;
-use crate::program::{Access, Call, Field, Fork, Guard, Lock, Method, Node, Program, Table};
+use crate::program::{Access, Call, Field, Fork, Guard, Lock, Method, Node, Program, Reading, Table};
 use ikhzorvan::Refusal;
 
 /// What can be wrong with a line. In each line they are looked for in this order.
@@ -212,6 +212,7 @@ fn node_frame(bytes: &[u8]) -> Result<NodeFrame, Fault> {
 struct Body<'a> {
     fields: &'a [Field],
     signatures: &'a [Signature],
+    reading: Reading,
     names: usize,
     /// The tree of each node read so far; none once another node has named it.
     trees: Vec<Option<Box<Node>>>,
@@ -277,7 +278,7 @@ impl Body<'_> {
         let (needed, rest) = frame.locks.split_at(self.signatures.get(method)?.names);
         rest.iter().try_for_each(|&byte| unused(byte).map(|_| ()))?;
         let locks = needed.iter().map(|&byte| self.lock(byte)).collect::<Option<_>>()?;
-        Some(Call { method, locks })
+        Some(Call { method, locks, reading: self.reading })
     }
 
     fn fork(&self, frame: &NodeFrame) -> Option<Fork> {
@@ -297,8 +298,9 @@ fn method(
     signature: &Signature,
     signatures: &[Signature],
     fields: &[Field],
+    reading: Reading,
 ) -> Result<Method, Refusal> {
-    let mut body = Body { fields, signatures, names: signature.names, trees: Vec::new(), forks: Vec::new() };
+    let mut body = Body { fields, signatures, reading, names: signature.names, trees: Vec::new(), forks: Vec::new() };
     for _ in 0..signature.nodes {
         lines.read(Due::Node, |bytes| body.take(bytes))?;
     }
@@ -325,7 +327,7 @@ fn signatures(lines: &mut Lines, header: &Header) -> Result<Vec<Signature>, Refu
 }
 
 /// The program of a text, or refusal 2 to 6.
-pub fn read(text: &[u8]) -> Result<Program, Refusal> {
+pub fn read(reading: Reading, text: &[u8]) -> Result<Program, Refusal> {
     if text.len() > ikhzorvan::LONGEST_TEXT {
         return Err(Refusal::Overlong);
     }
@@ -333,8 +335,8 @@ pub fn read(text: &[u8]) -> Result<Program, Refusal> {
     let header = lines.read(Due::Header, header)?;
     let fields = (0..header.fields).map(|_| lines.read(Due::Field, field)).collect::<Result<Vec<_>, _>>()?;
     let signatures = signatures(lines, &header)?;
-    let methods =
-        signatures.iter().map(|one| method(lines, one, &signatures, &fields)).collect::<Result<Vec<_>, _>>()?;
+    let methods = signatures.iter().map(|one| method(lines, one, &signatures, &fields, reading));
+    let methods = methods.collect::<Result<Vec<_>, _>>()?;
     lines.end()?;
     Ok(Program { methods })
 }

@@ -85,11 +85,6 @@ impl Held {
         self.0[name] = true;
         self
     }
-
-    /// The held set of a callee whose lock name j is held exactly if `holds(j)`.
-    pub fn of_names(names: usize, holds: impl Fn(usize) -> bool) -> Held {
-        Held(std::array::from_fn(|name| name < names && holds(name)))
-    }
 }
 
 #[cfg(test)]

@@ -1,4 +1,5 @@
-//! The paper's rules in plain Rust, written to be held against the paper line by line, not to be fast.
+//! The paper's rules in plain Rust, with what document 02 has changed in them (W-204), written to be held against both line
+//! by line, not to be fast.
 //!
 //! It shares no form with the checker that it judges: programs are trees, grades an enum, the lowest tables are found by a
 //! worklist, and the rounds are counted apart from that.
@@ -10,7 +11,7 @@ mod lowest;
 mod program;
 
 pub use grade::Grade;
-pub use program::Table;
+pub use program::{Reading, Table};
 
 use ikhzorvan::{Accepted, Refusal, Verdict, ANSWER_LEN};
 use program::Program;
@@ -26,7 +27,12 @@ pub struct Graded {
 
 /// Grades a text whose answer has the right length, or gives refusal 2 to 6.
 pub fn graded(text: &[u8]) -> Result<Graded, Refusal> {
-    let program = frames::read(text)?;
+    graded_as(Reading::W204, text)
+}
+
+/// The same by either reading of a call's FF.
+pub fn graded_as(reading: Reading, text: &[u8]) -> Result<Graded, Refusal> {
+    let program = frames::read(reading, text)?;
     let tables = lowest::tables(&program);
     let (rounds, reached) = lowest::rounds(&program);
     assert_eq!(tables, reached, "the worklist and the rounds find other tables");
@@ -43,10 +49,15 @@ fn count(program: &Program) -> u8 {
 
 /// Grades a text into a lent answer, which a refusal leaves untouched.
 pub fn grade(text: &[u8], answer: &mut [u8]) -> Verdict {
+    grade_as(Reading::W204, text, answer)
+}
+
+/// The same by either reading of a call's FF.
+pub fn grade_as(reading: Reading, text: &[u8], answer: &mut [u8]) -> Verdict {
     if answer.len() != ANSWER_LEN {
         return Verdict::Refused(Refusal::WrongLength);
     }
-    match graded(text) {
+    match graded_as(reading, text) {
         Err(refusal) => Verdict::Refused(refusal),
         Ok(graded) => {
             if let Verdict::Accepted(_) = graded.verdict {

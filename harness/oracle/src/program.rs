@@ -30,8 +30,27 @@ pub struct Fork {
     pub method: usize,
 }
 
-/// A lock as a node names it: one of the method's own names, or none that is constant (FF), which counts as not held.
+/// A lock as a node names it: one of the method's own names, or FF, "no constant name for that lock". An access with FF and
+/// a call with FF are different things: see [`Access::is_locked`] and [`Reading`].
 pub type Lock = Option<usize>;
+
+/// Which choices a call has for an FF name.
+#[derive(Clone, Copy, Debug, PartialEq, Eq)]
+pub enum Reading {
+    /// The rule in force, W-204: held or not, "each chosen apart".
+    W204,
+    /// 01's reading, for comparison: "such a lock counts as not held".
+    Of01,
+}
+
+impl Reading {
+    fn allows(self, is_held: bool) -> bool {
+        match self {
+            Reading::W204 => true,
+            Reading::Of01 => !is_held,
+        }
+    }
+}
 
 #[derive(Debug)]
 pub enum Node {
@@ -52,6 +71,7 @@ pub enum Node {
 pub struct Call {
     pub method: usize,
     pub locks: Vec<Lock>,
+    pub reading: Reading,
 }
 
 #[derive(Clone, Copy, Debug)]
@@ -82,10 +102,6 @@ pub struct Access {
     pub lock: Lock,
 }
 
-fn holds(held: Held, lock: Lock) -> bool {
-    lock.is_some_and(|name| held.has(name))
-}
-
 impl Field {
     /// "2 for a narrow field and 3 for a wide one".
     fn unprotected(self) -> Grade {
@@ -98,8 +114,13 @@ impl Field {
 }
 
 impl Access {
+    /// Is the access's lock held? "FF at a guarded or write-guarded access also means not held."
+    fn is_locked(self, held: Held) -> bool {
+        self.lock.is_some_and(|name| held.has(name))
+    }
+
     fn read(self, held: Held) -> Grade {
-        match (self.field.guard, holds(held, self.lock)) {
+        match (self.field.guard, self.is_locked(held)) {
             (Guard::Final, _) => Grade::Const,
             (Guard::Guarded | Guard::WriteGuarded, true) => Grade::Mover,
             (Guard::Guarded, false) => Grade::Error,
@@ -108,7 +129,7 @@ impl Access {
     }
 
     fn write(self, held: Held) -> Grade {
-        match (self.field.guard, holds(held, self.lock)) {
+        match (self.field.guard, self.is_locked(held)) {
             (Guard::Final, _) => Grade::Error,
             (Guard::Guarded, true) => Grade::Mover,
             (Guard::Guarded | Guard::WriteGuarded, false) => Grade::Error,
@@ -118,9 +139,19 @@ impl Access {
 }
 
 impl Call {
-    /// "Callee name j is held exactly if Tj is in H."
-    fn callee_holds(&self, held: Held) -> Held {
-        Held::of_names(self.locks.len(), |name| holds(held, self.locks[name]))
+    /// May the callee's held set be this one, where the caller's is `held`? "Callee name j is held exactly if Tj is in H",
+    /// and a name with FF as chosen.
+    fn allows(&self, held: Held, callees: Held) -> bool {
+        self.locks.iter().enumerate().all(|(name, lock)| match lock {
+            Some(lock) => callees.has(name) == held.has(*lock),
+            None => self.reading.allows(callees.has(name)),
+        })
+    }
+
+    /// "The largest callee entry over all choices for its FF names, each chosen apart": over all held sets that are allowed.
+    fn grade(&self, held: Held, callee: &mut impl FnMut(usize, Held) -> Grade) -> Grade {
+        let sets = (0..1 << self.locks.len()).map(Held::of_entry).filter(|&callees| self.allows(held, callees));
+        sets.map(|callees| callee(self.method, callees)).fold(Grade::Const, Grade::join)
     }
 }
 
@@ -146,7 +177,7 @@ impl Node {
             Node::Synchronised(lock, x) if held.has(*lock) => x.grade(held, callee),
             Node::Synchronised(lock, x) => x.grade(held.with(*lock), callee).locked(),
             Node::Assert(x) => x.grade(held, callee).asserted(),
-            Node::Call(x, call) => x.grade(held, callee).then(callee(call.method, call.callee_holds(held))),
+            Node::Call(x, call) => x.grade(held, callee).then(call.grade(held, callee)),
             Node::Fork(x) => x.grade(held, callee).then(Grade::Atomic),
         }
     }

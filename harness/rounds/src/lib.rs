@@ -1,4 +1,4 @@
-//! The paper's rules as an ordinary Rust programmer would write them for speed, round by round, without tricks.
+//! The paper's rules, with W-204, as an ordinary Rust programmer would write them for speed, round by round, without tricks.
 //!
 //! The baseline of the benchmarks, and a second check on the oracle: it shares no code with it.
 

@@ -28,7 +28,8 @@ pub struct Field {
     pub guard: u8,
 }
 
-/// Children count from 0 within the method. A `lock` is the bit of the lock's name, and 0 where it has none.
+/// Children count from 0 within the method. A `lock` is the bit of the lock's name, and 0 where it has none; `free` has the
+/// bits of the callee's names that are FF.
 pub enum Op {
     Plain,
     Read { x: usize, field: Field, lock: usize },
@@ -38,7 +39,7 @@ pub enum Op {
     Loop { x: usize, y: usize },
     Synchronised { x: usize, lock: usize },
     Assert { x: usize },
-    Call { x: usize, method: usize, locks: [usize; 4] },
+    Call { x: usize, method: usize, locks: [usize; 4], free: usize },
     Fork { x: usize, method: usize },
 }
 
@@ -254,12 +255,14 @@ fn op(
         8 => {
             lines.check_naming(u < methods.len())?;
             let mut locks = [0; 4];
+            let mut free = 0;
             for (j, &t) in t.iter().enumerate() {
                 let needed = j < usize::from(methods[u].k);
                 lines.check_naming(if needed { t < k || t == NO_NAME } else { t == 0 })?;
                 locks[j] = if needed { lock_bit(t) } else { 0 };
+                free |= usize::from(t == NO_NAME) << j;
             }
-            Op::Call { x, method: u, locks }
+            Op::Call { x, method: u, locks, free }
         }
         _ => {
             lines.check_naming(u < methods.len() && methods[u].k > 0)?;

@@ -105,7 +105,9 @@ fn grade_under(nodes: &[Node], node: usize, held: usize, tables: &[Table]) -> u8
         Op::Synchronised { x, lock } if held & lock != 0 => below(x),
         Op::Synchronised { x, lock } => grade_under(nodes, x, held | lock, tables).max(2),
         Op::Assert { x } => ASSERTED[usize::from(below(x))],
-        Op::Call { x, method, locks } => compose(below(x), tables[method][callee_entry(held, locks)]),
+        Op::Call { x, method, locks, free } => {
+            compose(below(x), largest_entry(&tables[method], callee_entry(held, locks), free))
+        }
         Op::Fork { x, .. } => compose(below(x), 2),
     }
 }
@@ -153,9 +155,10 @@ fn node_table(op: &Op, entries: usize, tables: &[Table], below: &[Table]) -> Tab
                 *grade = ASSERTED[usize::from(below[x][held])];
             }
         }
-        Op::Call { x, method, locks } => {
+        Op::Call { x, method, locks, free } => {
+            let callee = freed(tables[method], free);
             for (held, grade) in own.iter_mut().enumerate() {
-                *grade = compose(below[x][held], tables[method][callee_entry(held, locks)]);
+                *grade = compose(below[x][held], callee[callee_entry(held, locks)]);
             }
         }
         Op::Fork { x, .. } => {
@@ -175,6 +178,33 @@ fn callee_entry(held: usize, locks: [usize; 4]) -> usize {
         }
     }
     entry
+}
+
+/// The largest entry over all choices for the free names, from all of them held down to none.
+fn largest_entry(table: &Table, named: usize, free: usize) -> u8 {
+    let mut largest = table[named];
+    let mut chosen = free;
+    while chosen != 0 {
+        largest = largest.max(table[named | chosen]);
+        chosen = (chosen - 1) & free;
+    }
+    largest
+}
+
+/// The table with the largest entry over all choices for the free names at each entry: one name after the other, the entries
+/// with it and without it both get the larger of the two.
+fn freed(mut table: Table, free: usize) -> Table {
+    for name in [1, 2, 4, 8] {
+        if free & name == 0 {
+            continue;
+        }
+        for without in (0..16).filter(|entry| entry & name == 0) {
+            let larger = table[without].max(table[without | name]);
+            table[without] = larger;
+            table[without | name] = larger;
+        }
+    }
+    table
 }
 
 /// The first broken constraint: method by method, in each its declaration, the main, its forks.
