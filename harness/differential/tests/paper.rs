@@ -1,4 +1,4 @@
-//! The paper's own cases, by every grader there is: P5 to P8 and P10 to P12 as texts, and each limit.
+//! The paper's own cases, by every grader there is: P5 to P13 as texts, W-204's rule for a call, and each limit.
 
 use differential::graders::{self, Grader};
 use ikhzorvan::{Accepted, Refusal, Verdict, ANSWER_LEN, LONGEST_TEXT, RECORD_LEN};
@@ -49,9 +49,22 @@ fn table_of_call(k: u8, callee: &[u8], locks: &[u8], above: &[Node]) -> Vec<u8> 
         method.push(node);
     }
     let program = Program { fields: Vec::new(), methods: vec![idle_main(), method, declared(callee)] };
+    table_of_method_1(&program)
+}
+
+fn table_of_method_1(program: &Program) -> Vec<u8> {
     let (verdict, answer) = graded(&program.text());
     assert!(matches!(verdict, Verdict::Accepted(_)), "{verdict:?}");
-    answer[16..16 + (1 << k)].to_vec()
+    answer[16..][..program.methods[1].entries()].to_vec()
+}
+
+/// The table of a method with one lock name that accesses a field by FF.
+fn table_of_access(op: u8, field: Field) -> Vec<u8> {
+    let mut method = Method::new(1);
+    let plain = [method.push(Node::default()), method.push(Node::default())];
+    method.push(Node::of(op, &plain[..op::children(op)]).naming(0, &[NO_NAME]));
+    let program = Program { fields: vec![field], methods: vec![idle_main(), method] };
+    table_of_method_1(&program)
 }
 
 fn synchronised_on_0() -> Node {
@@ -91,6 +104,48 @@ fn p12_main_reads_and_calls_itself() {
     let (verdict, answer) = graded(&program.text());
     assert_eq!(verdict, Verdict::Accepted(Accepted { methods: 1, rounds: 2 }));
     assert_eq!(answer[0], 3);
+}
+
+#[test]
+fn p13_a_suppliers_declared_table_called_with_ff() {
+    assert_eq!(table_of_call(0, &[1, 3], &[NO_NAME], &[]), [3]);
+}
+
+#[test]
+fn each_ff_is_chosen_apart() {
+    let with_both = |callee: &[u8]| table_of_call(0, callee, &[NO_NAME, NO_NAME], &[]);
+    // The largest entry may have neither name, one of the two, or both.
+    assert_eq!(with_both(&[3, 0, 0, 0]), [3]);
+    assert_eq!(with_both(&[0, 1, 2, 0]), [2]);
+    assert_eq!(with_both(&[0, 2, 1, 0]), [2]);
+    assert_eq!(with_both(&[0, 0, 0, 3]), [3]);
+    for largest in 0..16 {
+        let callee: [u8; 16] = std::array::from_fn(|entry| u8::from(entry == largest));
+        assert_eq!(table_of_call(0, &callee, &[NO_NAME; 4], &[]), [1], "entry {largest}");
+    }
+}
+
+#[test]
+fn names_that_are_not_ff_are_held_exactly_if_the_callers_are() {
+    // Name 1 is the caller's 0: only entries 0 and 1 count without it, and only 2 and 3 with it.
+    assert_eq!(table_of_call(1, &[0, 1, 2, 3], &[NO_NAME, 0], &[]), [1, 3]);
+    assert_eq!(table_of_call(1, &[3, 2, 1, 0], &[NO_NAME, 0], &[]), [3, 1]);
+    // Names 0 and 2 are one lock beside the FF of name 1: entries 0 and 2 count without it, 5 and 7 with it.
+    assert_eq!(table_of_call(1, &[0, 4, 1, 4, 4, 2, 4, 3], &[0, NO_NAME, 0], &[]), [1, 3]);
+}
+
+#[test]
+fn a_lock_taken_around_a_call_answers_for_none_of_its_ff() {
+    assert_eq!(table_of_call(1, &[1, 3], &[NO_NAME], &[synchronised_on_0()]), [3, 3]);
+    assert_eq!(table_of_call(1, &[1, 1], &[NO_NAME], &[synchronised_on_0()]), [2, 1]);
+}
+
+#[test]
+fn ff_at_an_access_means_not_held() {
+    for (guard, wide, read, write) in [(1, 0, 4, 4), (1, 1, 4, 4), (2, 0, 2, 4), (2, 1, 3, 4)] {
+        assert_eq!(table_of_access(op::READ, Field { wide, guard }), [read, read]);
+        assert_eq!(table_of_access(op::WRITE, Field { wide, guard }), [write, write]);
+    }
 }
 
 #[test]
