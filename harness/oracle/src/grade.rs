@@ -67,6 +67,8 @@ impl Grade {
 pub struct Held([bool; 4]);
 
 impl Held {
+    pub const NONE: Held = Held([false; 4]);
+
     /// "Bit j of the entry's number says that name j is held."
     pub fn of_entry(entry: usize) -> Held {
         Held(std::array::from_fn(|name| (entry >> name) % 2 == 1))

@@ -30,26 +30,17 @@ pub struct Fork {
     pub method: usize,
 }
 
-/// A lock as a node names it: one of the method's own names, or FF, "no constant name for that lock". An access with FF and
-/// a call with FF are different things: see [`Access::is_locked`] and [`Reading`].
+/// A lock as a node names it: one of the method's own names, or none that is constant (FF). At an access FF "means not
+/// held"; what it means at a call, [`Reading`] says.
 pub type Lock = Option<usize>;
 
-/// Which choices a call has for an FF name.
+/// Whose rule a call's FF is read by.
 #[derive(Clone, Copy, Debug, PartialEq, Eq)]
 pub enum Reading {
-    /// The rule in force, W-204: held or not, "each chosen apart".
+    /// The rule in force: the callee's name may be held or not.
     W204,
     /// 01's reading, for comparison: "such a lock counts as not held".
     Of01,
-}
-
-impl Reading {
-    fn allows(self, is_held: bool) -> bool {
-        match self {
-            Reading::W204 => true,
-            Reading::Of01 => !is_held,
-        }
-    }
 }
 
 #[derive(Debug)]
@@ -139,19 +130,33 @@ impl Access {
 }
 
 impl Call {
-    /// May the callee's held set be this one, where the caller's is `held`? "Callee name j is held exactly if Tj is in H",
-    /// and a name with FF as chosen.
-    fn allows(&self, held: Held, callees: Held) -> bool {
-        self.locks.iter().enumerate().all(|(name, lock)| match lock {
-            Some(lock) => callees.has(name) == held.has(*lock),
-            None => self.reading.allows(callees.has(name)),
-        })
+    /// "A call takes the largest callee entry over all choices for its FF names, each chosen apart."
+    fn grade(&self, held: Held, callee: &mut impl FnMut(usize, Held) -> Grade) -> Grade {
+        self.grade_from(0, Held::NONE, held, callee)
     }
 
-    /// "The largest callee entry over all choices for its FF names, each chosen apart": over all held sets that are allowed.
-    fn grade(&self, held: Held, callee: &mut impl FnMut(usize, Held) -> Grade) -> Grade {
-        let sets = (0..1 << self.locks.len()).map(Held::of_entry).filter(|&callees| self.allows(held, callees));
-        sets.map(|callees| callee(self.method, callees)).fold(Grade::Const, Grade::join)
+    /// The same once the callee's names below `name` are settled, and those in `settled` are held.
+    fn grade_from(
+        &self,
+        name: usize,
+        settled: Held,
+        held: Held,
+        callee: &mut impl FnMut(usize, Held) -> Grade,
+    ) -> Grade {
+        let Some(lock) = self.locks.get(name) else {
+            return callee(self.method, settled);
+        };
+        let mut branch = |is_held: bool| {
+            let settled = if is_held { settled.with(name) } else { settled };
+            self.grade_from(name + 1, settled, held, callee)
+        };
+        match (lock, self.reading) {
+            // "Callee name j is held exactly if Tj is in H."
+            (Some(lock), _) => branch(held.has(*lock)),
+            // "Document 000 joins both branches."
+            (None, Reading::W204) => branch(false).join(branch(true)),
+            (None, Reading::Of01) => branch(false),
+        }
     }
 }
 
