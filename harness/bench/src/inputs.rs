@@ -60,7 +60,7 @@ fn accepted(name: impl Into<String>, text: Vec<u8>) -> Input {
 /// The same, with its rounds in the name.
 fn with_rounds(name: impl Into<String>, text: Vec<u8>) -> Input {
     let name = name.into();
-    match Expected::of(&text).verdict {
+    match Expected::of(&text).outcome.verdict {
         Verdict::Accepted(Accepted { rounds, .. }) => accepted(format!("{name} ({rounds} rounds)"), text),
         Verdict::Refused(refusal) => panic!("{name}: {refusal:?}"),
     }
@@ -92,7 +92,7 @@ fn session() -> Vec<Input> {
 fn full_with(number: u8, count: usize) -> Vec<Program> {
     let rng = &mut Rng::of_seed(64);
     let programs = std::iter::repeat_with(|| undeclared(rng, Shape { careless: 0, ..Shape::full() }));
-    let is_wanted = |program: &Program| Expected::of(&program.text()).verdict.number() == number;
+    let is_wanted = |program: &Program| Expected::of(&program.text()).outcome.verdict.number() == number;
     programs.filter(is_wanted).take(count).collect()
 }
 

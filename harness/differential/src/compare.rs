@@ -2,20 +2,33 @@
 
 use crate::graders::{laid_out, recorded, Grader};
 use ikhzorvan::{Refusal, Verdict, ANSWER_LEN, RECORD_LEN};
+use oracle::Reading;
+
+/// What grading a text comes to where the answer has the right length: the verdict, with its rounds, and the answer's bytes,
+/// all 0 in a refusal.
+#[derive(Clone, Copy, Debug, PartialEq, Eq)]
+pub struct Outcome {
+    pub verdict: Verdict,
+    pub answer: [u8; ANSWER_LEN],
+}
+
+impl Outcome {
+    /// The oracle's, by either reading of a call's FF.
+    pub fn of(reading: Reading, text: &[u8]) -> Outcome {
+        let mut answer = [0; ANSWER_LEN];
+        Outcome { verdict: oracle::grade_as(reading, text, &mut answer), answer }
+    }
+}
 
 /// What the oracle says of a text.
 pub struct Expected {
-    /// The verdict where the answer has the right length.
-    pub verdict: Verdict,
-    answer: [u8; ANSWER_LEN],
+    pub outcome: Outcome,
     session: Vec<u8>,
 }
 
 impl Expected {
     pub fn of(text: &[u8]) -> Expected {
-        let mut answer = [0; ANSWER_LEN];
-        let verdict = oracle::grade(text, &mut answer);
-        Expected { verdict, answer, session: oracle::session(text) }
+        Expected { outcome: Outcome::of(Reading::W204, text), session: oracle::session(text) }
     }
 
     fn grade(&self, answer: &mut [u8], record: &mut [u8]) -> u8 {
@@ -23,10 +36,10 @@ impl Expected {
             if answer.len() != ANSWER_LEN {
                 return Verdict::Refused(Refusal::WrongLength);
             }
-            if let Verdict::Accepted(_) = self.verdict {
-                answer.copy_from_slice(&self.answer);
+            if let Verdict::Accepted(_) = self.outcome.verdict {
+                answer.copy_from_slice(&self.outcome.answer);
             }
-            self.verdict
+            self.outcome.verdict
         })
     }
 }

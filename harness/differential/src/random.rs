@@ -5,11 +5,12 @@ use crate::graders::Grader;
 use crate::tally::Tally;
 use ikhzorvan::{ANSWER_LEN, RECORD_LEN};
 use texts::shrink::shrunk;
+use texts::unnamed::{self, Slope};
 use texts::{damage, limits, random, ring, Rng};
 
 /// The text of a case: the same seed and number give the same text.
 pub fn text(rng: &mut Rng) -> Vec<u8> {
-    match rng.below(100) {
+    match rng.below(120) {
         0..=54 => random::program(rng).text(),
         55..=79 => {
             let text = random::program(rng).text();
@@ -22,10 +23,11 @@ pub fn text(rng: &mut Rng) -> Vec<u8> {
         }
         90..=95 => ring::random(rng).text(),
         96..=98 => limits::text(rng),
-        _ => {
+        99 => {
             let text = limits::text(rng);
             damage::damaged(rng, &text)
         }
+        _ => unnamed::program(rng, Slope::Rising).text(),
     }
 }
 
@@ -48,7 +50,7 @@ pub fn run(seed: u64, count: usize, graders: &[Box<dyn Grader>]) -> Result<Tally
                 return Err(format!("case {case} of seed {seed}: {}", failure(grader.as_ref(), &text, wrong, what)));
             }
         }
-        tally.take(&text, expected.verdict);
+        tally.take(&text, &expected.outcome);
     }
     Ok(tally)
 }

@@ -1,6 +1,8 @@
 //! Counts what the random texts have reached, so that a run that reaches too little fails.
 
+use crate::compare::Outcome;
 use ikhzorvan::{Kind, Refusal, Verdict};
+use oracle::Reading;
 use std::fmt;
 use texts::program::{op, Method, Node, Program, NO_NAME};
 
@@ -23,7 +25,7 @@ pub struct Tally {
 /// How many texts a run must have to be held to [`WANTED`].
 pub const JUDGED_TEXTS: usize = 120_000;
 
-const WANTED: [(&str, usize); 21] = [
+const WANTED: [(&str, usize); 32] = [
     ("accepted", 10_000),
     ("refusal 1", 1_000),
     ("refusal 2", 100),
@@ -38,13 +40,24 @@ const WANTED: [(&str, usize); 21] = [
     ("accepted, 3 or more rounds", 5_000),
     ("accepted, 10 or more rounds", 500),
     ("accepted, declared methods", 3_000),
-    ("accepted, call with FF", 3_000),
+    ("accepted, call with 1 FF name", 3_000),
+    ("accepted, call with 2 FF names", 3_000),
+    ("accepted, call with 3 FF names", 3_000),
+    ("accepted, call with 4 FF names", 3_000),
+    ("accepted, call with FF and names", 3_000),
     ("accepted, call with two names for one lock", 3_000),
+    ("accepted, the same beside FF", 3_000),
     ("accepted, synchronised", 3_000),
     ("accepted, loop", 3_000),
     ("accepted, choice", 3_000),
     ("accepted, assert", 3_000),
     ("accepted, fork", 3_000),
+    ("W-204 gives another outcome than 01", 10_000),
+    ("both accept, with another answer", 5_000),
+    ("W-204 refuses alone, kind 1", 500),
+    ("W-204 refuses alone, kind 2", 500),
+    ("W-204 refuses alone, kind 3", 500),
+    ("both refuse, by another constraint", 500),
 ];
 
 impl Tally {
@@ -63,12 +76,12 @@ impl Tally {
         line.reached += usize::from(reached);
     }
 
-    /// Takes in the oracle's verdict on a text.
-    pub fn take(&mut self, text: &[u8], verdict: Verdict) {
+    /// Takes in what the oracle has found of a text.
+    pub fn take(&mut self, text: &[u8], outcome: &Outcome) {
         // An answer of wrong length has been tried with every text.
         self.count("refusal 1");
         self.longest = self.longest.max(text.len());
-        match verdict {
+        match outcome.verdict {
             Verdict::Accepted(accepted) => {
                 self.count("accepted");
                 self.most_rounds = self.most_rounds.max(accepted.rounds);
@@ -77,6 +90,26 @@ impl Tally {
                 self.take_program(&Program::of_text(text).expect("an accepted text is a program"));
             }
             Verdict::Refused(refusal) => self.take_refusal(refusal),
+        }
+        self.take_rules(outcome, &Outcome::of(Reading::Of01, text));
+    }
+
+    /// Takes in how W-204's outcome and 01's differ.
+    fn take_rules(&mut self, outcome: &Outcome, of_01: &Outcome) {
+        if outcome == of_01 {
+            return;
+        }
+        self.count("W-204 gives another outcome than 01");
+        match (outcome.verdict, of_01.verdict) {
+            (Verdict::Accepted(_), Verdict::Accepted(_)) => self.count("both accept, with another answer"),
+            (Verdict::Refused(Refusal::Broken(broken)), Verdict::Accepted(_)) => self.count(match broken.kind {
+                Kind::Declared => "W-204 refuses alone, kind 1",
+                Kind::Main => "W-204 refuses alone, kind 2",
+                Kind::Fork { .. } => "W-204 refuses alone, kind 3",
+            }),
+            (Verdict::Refused(_), Verdict::Refused(_)) => self.count("both refuse, by another constraint"),
+            // W-204's grades are nowhere lower, which the laws try.
+            _ => {}
         }
     }
 
@@ -109,8 +142,14 @@ impl Tally {
         };
         let is_declared = |method: &Method| method.declared.is_some();
         self.count_if("accepted, declared methods", methods.iter().any(is_declared));
-        self.count_if("accepted, call with FF", calls(&|locks| locks.contains(&NO_NAME)));
+        let free = |locks: &[u8]| locks.iter().filter(|&&lock| lock == NO_NAME).count();
+        self.count_if("accepted, call with 1 FF name", calls(&|locks| free(locks) == 1));
+        self.count_if("accepted, call with 2 FF names", calls(&|locks| free(locks) == 2));
+        self.count_if("accepted, call with 3 FF names", calls(&|locks| free(locks) == 3));
+        self.count_if("accepted, call with 4 FF names", calls(&|locks| free(locks) == 4));
+        self.count_if("accepted, call with FF and names", calls(&|locks| (1..locks.len()).contains(&free(locks))));
         self.count_if("accepted, call with two names for one lock", calls(&has_alias));
+        self.count_if("accepted, the same beside FF", calls(&|locks| free(locks) > 0 && has_alias(locks)));
         self.count_if("accepted, synchronised", has_op(op::SYNCHRONISED));
         self.count_if("accepted, loop", has_op(op::LOOP));
         self.count_if("accepted, choice", has_op(op::CHOICE));
