@@ -18,6 +18,12 @@ impl Outcome {
         let mut answer = [0; ANSWER_LEN];
         Outcome { verdict: oracle::grade_as(reading, text, &mut answer), answer }
     }
+
+    pub fn by(grader: &dyn Grader, text: &[u8]) -> Outcome {
+        let (mut answer, mut record) = ([0; ANSWER_LEN], [0; RECORD_LEN]);
+        grader.grade(text, &mut answer, &mut record);
+        Outcome { verdict: Verdict::from_record(&record).expect("a verdict's record"), answer }
+    }
 }
 
 /// What the oracle says of a text.

@@ -1,9 +1,13 @@
-//! The three laws, by test on random accepted programs.
+//! The three laws, by test on random accepted programs, and two that hold W-204 against 01, on refused ones too.
 
+use crate::compare::Outcome;
 use crate::graders::Grader;
-use ikhzorvan::{ANSWER_LEN, RECORD_LEN};
+use ikhzorvan::{Verdict, ANSWER_LEN, RECORD_LEN};
+use oracle::{graded_as, Graded, Reading};
 use std::fmt;
-use texts::random::{declare, undeclared, Declare, Shape};
+use texts::program::{op, Node, NO_NAME};
+use texts::random::{self, declare, undeclared, Declare, Shape};
+use texts::unnamed::{self, Slope};
 use texts::{Program, Rng};
 
 type Answer = [u8; ANSWER_LEN];
@@ -19,38 +23,76 @@ pub struct Tried {
     pub better: usize,
     /// Methods whose found grades were declared.
     pub declared: usize,
+    /// Programs graded by both rules, and those of which some grade was higher by W-204.
+    pub graded_twice: usize,
+    pub higher: usize,
+    /// Programs without a declared grade that is worse where more is held, those that were refused, and those with a call
+    /// whose grade hangs on what is chosen for its FF names.
+    pub alike: usize,
+    pub alike_refused: usize,
+    pub alike_with_choice: usize,
+}
+
+impl Tried {
+    /// Was there enough to see? Laws (d) and (e) say nothing of a program without calls with FF.
+    pub fn is_enough(&self) -> bool {
+        4 * self.higher >= self.graded_twice && 3 * self.alike_with_choice >= self.alike
+    }
 }
 
 impl fmt::Display for Tried {
     fn fmt(&self, out: &mut fmt::Formatter) -> fmt::Result {
-        let Tried { programs, falling, struck, better, declared } = self;
+        let Tried { programs, falling, struck, better, declared, .. } = self;
+        let Tried { graded_twice, higher, alike, alike_refused, alike_with_choice, .. } = self;
         writeln!(out, "  {programs} accepted programs, each grader")?;
         writeln!(out, "  (a) more locks held, no grade worse; {falling} methods have grades that fall")?;
         writeln!(
             out,
             "  (b) {struck} times declarations struck out, no grade worse; {better} times some grade better"
         )?;
-        write!(out, "  (c) {declared} times found grades declared, every grade the same")
+        writeln!(out, "  (c) {declared} times found grades declared, every grade the same")?;
+        writeln!(
+            out,
+            "  (d) {graded_twice} programs, no grade lower by W-204 than by 01; {higher} have one that is higher"
+        )?;
+        writeln!(out, "  (e) {alike} programs, none with a declared grade that is worse where more is held, {alike_refused} refused:")?;
+        write!(out, "      each grader's outcome is that of 01; in {alike_with_choice} the choices for FF differ")
     }
 }
 
-/// Tries the laws on so many accepted programs, or tells how one fails.
+/// Tries each law on so many programs, or tells how one fails.
 pub fn run(seed: u64, count: usize, graders: &[Box<dyn Grader>]) -> Result<Tried, String> {
     let mut tried = Tried::default();
     let rng = &mut Rng::of_seed(seed);
+    try_three(rng, count, graders, &mut tried)?;
+    while tried.graded_twice < count {
+        let program = if rng.percent(50) { unnamed::program(rng, Slope::Rising) } else { random::program(rng) };
+        nowhere_lower(&program, &mut tried).map_err(|law| broken(law, "oracle", &program))?;
+    }
+    while tried.alike < count {
+        let program = if rng.percent(50) { unnamed::program(rng, Slope::Falling) } else { program(rng) };
+        if program.methods.iter().flat_map(|method| &method.declared).all(|table| is_no_worse_with_more(table)) {
+            alike_by_both(&program, graders, &mut tried)?;
+        }
+    }
+    Ok(tried)
+}
+
+/// Tries the three laws on so many accepted programs.
+fn try_three(rng: &mut Rng, count: usize, graders: &[Box<dyn Grader>], tried: &mut Tried) -> Result<(), String> {
     while tried.programs < count {
         let program = program(rng);
         let mut is_accepted = false;
         for grader in graders {
             if let Some(answer) = accepted(grader.as_ref(), &program) {
                 is_accepted = true;
-                let mut laws = Laws { grader: grader.as_ref(), program: &program, answer, tried: &mut tried };
-                laws.try_each(rng).map_err(|law| broken(law, grader.as_ref(), &program))?;
+                let mut laws = Laws { grader: grader.as_ref(), program: &program, answer, tried };
+                laws.try_each(rng).map_err(|law| broken(law, grader.name(), &program))?;
             }
         }
         tried.programs += usize::from(is_accepted);
     }
-    Ok(tried)
+    Ok(())
 }
 
 /// A program whose declared tables are no worse where more locks are held.
@@ -61,8 +103,8 @@ fn program(rng: &mut Rng) -> Program {
     program
 }
 
-fn broken(law: &str, grader: &dyn Grader, program: &Program) -> String {
-    format!("{}: law {law} fails on\n{}", grader.name(), String::from_utf8_lossy(&program.text()))
+fn broken(law: &str, grader: &str, program: &Program) -> String {
+    format!("{grader}: law {law} fails on\n{}", String::from_utf8_lossy(&program.text()))
 }
 
 /// The answer, if the program is accepted.
@@ -75,8 +117,57 @@ fn table<'a>(answer: &'a Answer, program: &Program, method: usize) -> &'a [u8] {
     &answer[16 * method..][..program.methods[method].entries()]
 }
 
-fn is_no_worse(one: &[u8], other: &[u8]) -> bool {
+fn is_no_worse<T: PartialOrd>(one: &[T], other: &[T]) -> bool {
     one.iter().zip(other).all(|(one, other)| one <= other)
+}
+
+/// Is no entry of a table worse than one with less held?
+fn is_no_worse_with_more(table: &[u8]) -> bool {
+    let one_more = |held: usize| (0..4).map(move |name| held | 1 << name).filter(|&more| more < table.len());
+    (0..table.len()).all(|held| one_more(held).all(|more| table[more] <= table[held]))
+}
+
+/// (d) The lowest grades by W-204 are nowhere below those by 01, so that it accepts nothing that 01 refuses.
+fn nowhere_lower(program: &Program, tried: &mut Tried) -> Result<(), &'static str> {
+    let [w204, of_01] = [Reading::W204, Reading::Of01].map(|reading| lowest(reading, program));
+    let mut tables = w204.tables.iter().zip(&of_01.tables);
+    if !tables.all(|(table, of_01)| is_no_worse(of_01, table)) {
+        return Err("(d), no grade lower");
+    }
+    if matches!((w204.verdict, of_01.verdict), (Verdict::Accepted(_), Verdict::Refused(_))) {
+        return Err("(d), nothing accepted that 01 refuses");
+    }
+    tried.graded_twice += 1;
+    tried.higher += usize::from(w204.tables != of_01.tables);
+    Ok(())
+}
+
+/// (e) Where no declared grade is worse with more held, both rules give the same outcome: "not held" is then the worst choice.
+fn alike_by_both(program: &Program, graders: &[Box<dyn Grader>], tried: &mut Tried) -> Result<(), String> {
+    let text = program.text();
+    let of_01 = Outcome::of(Reading::Of01, &text);
+    if let Some(grader) = graders.iter().find(|grader| Outcome::by(grader.as_ref(), &text) != of_01) {
+        return Err(broken("(e)", grader.name(), program));
+    }
+    tried.alike += 1;
+    tried.alike_refused += usize::from(of_01.verdict.number() != 0);
+    tried.alike_with_choice += usize::from(has_choice(program));
+    Ok(())
+}
+
+fn lowest(reading: Reading, program: &Program) -> Graded {
+    graded_as(reading, &program.text()).expect("the program can be read")
+}
+
+/// Is there a call with FF of a method that has another grade with that name held than without?
+fn has_choice(program: &Program) -> bool {
+    let tables = lowest(Reading::W204, program).tables;
+    let differs = |node: &Node, name: usize| {
+        let table = &tables[usize::from(node.u)];
+        node.t[name] == NO_NAME && (0..table.len()).any(|held| table[held & !(1 << name)] != table[held | 1 << name])
+    };
+    let mut calls = program.methods.iter().flat_map(|method| &method.nodes).filter(|node| node.op == op::CALL);
+    calls.any(|node| (0..4).any(|name| differs(node, name)))
 }
 
 /// An accepted program, to try the laws on.
@@ -98,9 +189,7 @@ impl Laws<'_> {
     fn more_locks_held(&mut self) -> Result<(), &'static str> {
         for method in 0..self.program.methods.len() {
             let table = table(&self.answer, self.program, method);
-            let one_more = |held: usize| (0..4).map(move |name| held | 1 << name).filter(|&more| more < table.len());
-            let worse = (0..table.len()).any(|held| one_more(held).any(|more| table[more] > table[held]));
-            if worse {
+            if !is_no_worse_with_more(table) {
                 return Err("(a)");
             }
             self.tried.falling += usize::from(table.last() < table.first());

@@ -56,7 +56,10 @@ fn run_laws(seed: u64, graders: &[Box<dyn Grader>]) -> bool {
     match laws::run(seed, LAW_PROGRAMS, graders) {
         Ok(tried) => {
             println!("laws: hold on\n{tried}");
-            true
+            if !tried.is_enough() {
+                println!("  TOO FEW of them show anything");
+            }
+            tried.is_enough()
         }
         Err(failure) => {
             println!("laws: {failure}");

@@ -1,24 +1,20 @@
 //! The paper's own cases, by every grader there is: P5 to P13 as texts, W-204's rule for a call, and each limit.
 
-use differential::graders::{self, Grader};
-use ikhzorvan::{Accepted, Refusal, Verdict, ANSWER_LEN, LONGEST_TEXT, RECORD_LEN};
+use differential::compare::Outcome;
+use differential::graders;
+use ikhzorvan::{Accepted, Refusal, Verdict, LONGEST_TEXT};
 use texts::limits;
 use texts::program::{op, Field, Method, Node, Program, NO_NAME};
 
-/// Every grader's verdict on a text, which must be the same, with the answer.
-fn graded(text: &[u8]) -> (Verdict, [u8; ANSWER_LEN]) {
-    let by = |grader: &dyn Grader| {
-        let (mut answer, mut record) = ([0; ANSWER_LEN], [0; RECORD_LEN]);
-        grader.grade(text, &mut answer, &mut record);
-        (Verdict::from_record(&record).expect("a verdict's record"), answer)
-    };
-    let all: Vec<_> = graders::all().iter().map(|grader| by(grader.as_ref())).collect();
+/// Every grader's outcome of a text, which must be the same.
+fn graded(text: &[u8]) -> Outcome {
+    let all: Vec<_> = graders::all().iter().map(|grader| Outcome::by(grader.as_ref(), text)).collect();
     assert!(all.iter().all(|one| *one == all[0]), "the graders differ");
     all[0]
 }
 
 fn verdict(text: &[u8]) -> Verdict {
-    graded(text).0
+    graded(text).verdict
 }
 
 fn is_accepted(program: &Program) -> bool {
@@ -53,7 +49,7 @@ fn table_of_call(k: u8, callee: &[u8], locks: &[u8], above: &[Node]) -> Vec<u8> 
 }
 
 fn table_of_method_1(program: &Program) -> Vec<u8> {
-    let (verdict, answer) = graded(&program.text());
+    let Outcome { verdict, answer } = graded(&program.text());
     assert!(matches!(verdict, Verdict::Accepted(_)), "{verdict:?}");
     answer[16..][..program.methods[1].entries()].to_vec()
 }
@@ -101,7 +97,7 @@ fn p12_main_reads_and_calls_itself() {
     let read = main.push(Node::of(op::READ, &[plain]).naming(0, &[]));
     main.push(Node::of(op::CALL, &[read]).naming(0, &[]));
     let program = Program { fields: vec![Field { wide: 0, guard: 3 }], methods: vec![main] };
-    let (verdict, answer) = graded(&program.text());
+    let Outcome { verdict, answer } = graded(&program.text());
     assert_eq!(verdict, Verdict::Accepted(Accepted { methods: 1, rounds: 2 }));
     assert_eq!(answer[0], 3);
 }
