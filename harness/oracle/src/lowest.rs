@@ -2,7 +2,7 @@
 
 use crate::grade::{Grade, Held};
 use crate::program::{Program, Table};
-use std::collections::{BTreeSet, VecDeque};
+use std::collections::BTreeSet;
 
 /// An entry of a method's table: the method, and the number of the entry.
 type Place = (usize, usize);
@@ -24,15 +24,17 @@ pub fn tables(program: &Program) -> Vec<Table> {
     let mut tables = start(program);
     let mut lookers: Vec<Vec<BTreeSet<Place>>> =
         tables.iter().map(|table| vec![BTreeSet::new(); table.len()]).collect();
-    let mut waiting: VecDeque<Place> = undeclared_places(program).collect();
-    while let Some((method, entry)) = waiting.pop_front() {
-        let grade = program.methods[method].root.grade(Held::of_entry(entry), &mut |callee, held| {
-            lookers[callee][held.entry()].insert((method, entry));
-            tables[callee][held.entry()]
-        });
-        if grade > tables[method][entry] {
-            tables[method][entry] = grade;
-            waiting.extend(&lookers[method][entry]);
+    let mut waiting: BTreeSet<Place> = undeclared_places(program).collect();
+    while !waiting.is_empty() {
+        for (method, entry) in std::mem::take(&mut waiting) {
+            let grade = program.methods[method].root.grade(Held::of_entry(entry), &mut |callee, held| {
+                lookers[callee][held.entry()].insert((method, entry));
+                tables[callee][held.entry()]
+            });
+            if grade > tables[method][entry] {
+                tables[method][entry] = grade;
+                waiting.extend(&lookers[method][entry]);
+            }
         }
     }
     tables
