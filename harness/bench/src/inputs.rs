@@ -2,7 +2,7 @@
 
 use differential::compare::Expected;
 use ikhzorvan::{Accepted, Verdict, ANSWER_LEN, LONGEST_TEXT};
-use texts::grid::Grid;
+use texts::grid::{self, Grid};
 use texts::program::Program;
 use texts::random::{undeclared, Shape};
 use texts::{ring, Rng};
@@ -24,10 +24,10 @@ pub struct Input {
     pub number: u8,
 }
 
-/// Inputs that are shown together.
+/// Inputs that are shown together, made when they are due.
 pub struct Group {
     pub title: &'static str,
-    pub inputs: Vec<Input>,
+    pub inputs: fn() -> Vec<Input>,
 }
 
 /// The text of "One whole session".
@@ -68,13 +68,14 @@ fn with_rounds(name: impl Into<String>, text: Vec<u8>) -> Input {
 
 pub fn groups() -> Vec<Group> {
     vec![
-        Group { title: "the paper's session", inputs: session() },
-        Group { title: "random, 64 methods, 1,024 nodes, 4 locks", inputs: full() },
-        Group { title: "the most rounds", inputs: most_rounds() },
-        Group { title: "refused", inputs: refused() },
-        Group { title: "growth with nodes (16 a method, 4 locks, 3 rounds)", inputs: by_nodes() },
-        Group { title: "growth with locks (1,024 nodes, 3 rounds)", inputs: by_locks() },
-        Group { title: "growth with rounds (1,024 nodes, 4 locks)", inputs: by_rounds() },
+        Group { title: "the paper's session", inputs: session },
+        Group { title: "random, 64 methods, 1,024 nodes, 4 locks", inputs: full },
+        Group { title: "calls, 64 methods, 1,024 nodes, 4 locks", inputs: calls },
+        Group { title: "the most rounds", inputs: most_rounds },
+        Group { title: "refused", inputs: refused },
+        Group { title: "growth with nodes (16 a method, 4 locks, 3 rounds)", inputs: by_nodes },
+        Group { title: "growth with locks (1,024 nodes, 3 rounds)", inputs: by_locks },
+        Group { title: "growth with rounds (1,024 nodes, 4 locks)", inputs: by_rounds },
     ]
 }
 
@@ -104,6 +105,16 @@ fn full() -> Vec<Input> {
     inputs.push(output);
     inputs.extend(full_with(7, 1).into_iter().map(|program| graded("refusal 7", 7, program.text())));
     inputs
+}
+
+fn calls() -> Vec<Input> {
+    let calls = |name: &str, free: usize| with_rounds(name, grid::calls(free).text());
+    vec![
+        calls("every name named", 0),
+        calls("one of four FF", 1),
+        calls("two of four FF", 2),
+        calls("every name FF", 4),
+    ]
 }
 
 fn most_rounds() -> Vec<Input> {

@@ -1,5 +1,7 @@
 //! Measures the graders against each other and ends with a table.
 //!
+//! `bench [WORD]` measures the groups with that word in their title, or all.
+//!
 //! All graders get the same text. Answer, record and output are lent again for each call without being cleared, and every
 //! grader writes all that it has to, the whole answer of an accepted text included.
 
@@ -11,13 +13,14 @@ use ikhzorvan::{ANSWER_LEN, LONGEST_SESSION, RECORD_LEN};
 use inputs::{Call, Input};
 
 fn main() {
+    let word = std::env::args().nth(1).unwrap_or_default();
     let graders = graders::linked();
     let subject = graders.last().expect("there are graders").name();
     println!("median time of one call, and ratios of {subject} to the others; buffers not cleared between calls");
     print_row("", &headings(&graders));
-    for group in inputs::groups() {
+    for group in inputs::groups().iter().filter(|group| group.title.contains(&word)) {
         println!("{}", group.title);
-        for input in &group.inputs {
+        for input in &(group.inputs)() {
             expect_number(input);
             let times = times(&graders, input);
             print_row(&format!("  {}", input.name), &cells(&times));

@@ -55,7 +55,7 @@ impl fmt::Display for Tried {
             out,
             "  (d) {graded_twice} programs, no grade lower by W-204 than by 01; {higher} have one that is higher"
         )?;
-        writeln!(out, "  (e) {alike} programs, none with a declared grade that is worse where more is held, {alike_refused} refused:")?;
+        writeln!(out, "  (e) {alike} programs, {alike_refused} refused, no declared grade worse where more is held:")?;
         write!(out, "      each grader's outcome is that of 01; in {alike_with_choice} the choices for FF differ")
     }
 }

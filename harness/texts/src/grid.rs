@@ -1,6 +1,6 @@
 //! Programs of even size, to see how time grows with one number while the others stay.
 
-use crate::program::{op, Field, Method, Node, Program};
+use crate::program::{op, Field, Method, Node, Program, NO_NAME};
 
 /// A program of methods that are all alike.
 #[derive(Clone, Copy, Debug)]
@@ -17,10 +17,13 @@ pub struct Grid {
 const FINAL: u8 = 0;
 const UNGUARDED: u8 = 1;
 
+fn fields() -> Vec<Field> {
+    vec![Field { wide: 0, guard: 0 }, Field { wide: 0, guard: 3 }]
+}
+
 impl Grid {
     pub fn program(self) -> Program {
-        let fields = vec![Field { wide: 0, guard: 0 }, Field { wide: 0, guard: 3 }];
-        Program { fields, methods: (0..self.methods).map(|number| self.method(number)).collect() }
+        Program { fields: fields(), methods: (0..self.methods).map(|number| self.method(number)).collect() }
     }
 
     /// Methods 1 up to the number of rounds each call the next; the last of them is the source of the grade.
@@ -39,6 +42,30 @@ impl Grid {
         fill(&mut method, self.nodes, FINAL);
         method
     }
+}
+
+/// A program of full size, 64 methods of 16 nodes with 4 lock names but for the main, in which nearly every node is a call.
+/// The last so many of the four names in each are FF. No grade hangs on a held set, so FF leaves the grades and the rounds.
+pub fn calls(free: usize) -> Program {
+    let mut locks = [0, 1, 2, 3];
+    locks[4 - free..].fill(NO_NAME);
+    let methods = (0..64).map(|number| chain_of_calls(number, locks));
+    Program { fields: fields(), methods: methods.collect() }
+}
+
+/// Fifteen calls one after the other. The main, which has no names, calls itself; the last method reads before it calls.
+fn chain_of_calls(number: usize, locks: [u8; 4]) -> Method {
+    let mut method = Method::new(if number == 0 { 0 } else { 4 });
+    let mut last = method.push(Node::default());
+    for which in 1..16 {
+        let callee = 1 + (15 * number + which) % 63;
+        last = method.push(match (number, which) {
+            (0, _) => Node::of(op::CALL, &[last]).naming(0, &[]),
+            (63, 1) => Node::of(op::READ, &[last]).naming(UNGUARDED, &[]),
+            _ => Node::of(op::CALL, &[last]).naming(callee as u8, &locks),
+        });
+    }
+    method
 }
 
 /// Adds nodes above the root that leave its grade as it is, up to the number wanted.
@@ -76,6 +103,16 @@ mod tests {
             assert_eq!(program.node_count(), methods * nodes);
             let verdict = oracle::graded(&program.text()).expect("readable").verdict;
             assert_eq!(verdict, Verdict::Accepted(Accepted { methods: methods as u8, rounds: rounds as u16 }));
+        }
+    }
+
+    #[test]
+    fn calls_are_graded_the_same_whatever_is_ff() {
+        let graded = |free: usize| oracle::graded(&calls(free).text()).expect("readable");
+        assert_eq!(calls(0).node_count(), 1024);
+        assert_eq!(graded(0).verdict.number(), 0);
+        for free in 1..=4 {
+            assert_eq!((graded(free).verdict, graded(free).tables), (graded(0).verdict, graded(0).tables));
         }
     }
 }
