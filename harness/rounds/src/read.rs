@@ -39,7 +39,7 @@ pub enum Op {
     Loop { x: usize, y: usize },
     Synchronised { x: usize, lock: usize },
     Assert { x: usize },
-    Call { x: usize, method: usize, locks: [usize; 4], free: usize },
+    Call { x: usize, method: usize, locks: [usize; 4], free: u8 },
     Fork { x: usize, method: usize },
 }
 
@@ -260,7 +260,7 @@ fn op(
                 let needed = j < usize::from(methods[u].k);
                 lines.check_naming(if needed { t < k || t == NO_NAME } else { t == 0 })?;
                 locks[j] = if needed { lock_bit(t) } else { 0 };
-                free |= usize::from(t == NO_NAME) << j;
+                free |= u8::from(t == NO_NAME) << j;
             }
             Op::Call { x, method: u, locks, free }
         }

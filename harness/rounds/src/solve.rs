@@ -106,7 +106,7 @@ fn grade_under(nodes: &[Node], node: usize, held: usize, tables: &[Table]) -> u8
         Op::Synchronised { x, lock } => grade_under(nodes, x, held | lock, tables).max(2),
         Op::Assert { x } => ASSERTED[usize::from(below(x))],
         Op::Call { x, method, locks, free } => {
-            compose(below(x), largest_entry(&tables[method], callee_entry(held, locks), free))
+            compose(below(x), largest_entry(&tables[method], callee_entry(held, locks), usize::from(free)))
         }
         Op::Fork { x, .. } => compose(below(x), 2),
     }
@@ -156,7 +156,7 @@ fn node_table(op: &Op, entries: usize, tables: &[Table], below: &[Table]) -> Tab
             }
         }
         Op::Call { x, method, locks, free } => {
-            let callee = freed(tables[method], free);
+            let callee = freed(tables[method], usize::from(free));
             for (held, grade) in own.iter_mut().enumerate() {
                 *grade = compose(below[x][held], callee[callee_entry(held, locks)]);
             }
