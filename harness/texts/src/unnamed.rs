@@ -21,11 +21,11 @@ const FIELD: Field = Field { wide: 0, guard: 2 };
 pub fn program(rng: &mut Rng, slope: Slope) -> Program {
     let others = if rng.percent(3) { rng.between(12, 63) } else { rng.between(3, 8) };
     let a_supplier = rng.between(1, others);
-    let kinds: Vec<Kind> = (0..=others).map(|number| kind(rng, number, a_supplier)).collect();
-    let methods = kinds.iter().enumerate().map(|(number, kind)| match kind.is_supplier {
-        true => Method { declared: Some(table(rng, kind.k, slope)), ..idle(kind.k) },
+    let signatures: Vec<Signature> = (0..=others).map(|number| signature(rng, number, a_supplier)).collect();
+    let methods = signatures.iter().enumerate().map(|(number, own)| match own.is_supplier {
+        true => Method { declared: Some(table(rng, own.k, slope)), ..idle(own.k) },
         false if number == 0 && rng.percent(60) => idle(0),
-        false => caller(rng, &kinds, kind.k),
+        false => caller(rng, &signatures, own.k),
     });
     let mut program = Program { fields: vec![FIELD], methods: methods.collect() };
     match (rng.below(6), slope) {
@@ -39,16 +39,18 @@ pub fn program(rng: &mut Rng, slope: Slope) -> Program {
 
 /// What is settled of a method before its body is.
 #[derive(Clone, Copy)]
-struct Kind {
+struct Signature {
     k: u8,
     is_supplier: bool,
 }
 
-fn kind(rng: &mut Rng, number: usize, a_supplier: usize) -> Kind {
+fn signature(rng: &mut Rng, number: usize, a_supplier: usize) -> Signature {
     match number {
-        0 => Kind { k: 0, is_supplier: false },
-        _ if number == a_supplier || rng.percent(30) => Kind { k: rng.pick(&[1, 2, 2, 3, 4, 4]), is_supplier: true },
-        _ => Kind { k: rng.pick(&[0, 1, 1, 2, 3, 4]), is_supplier: false },
+        0 => Signature { k: 0, is_supplier: false },
+        _ if number == a_supplier || rng.percent(30) => {
+            Signature { k: rng.pick(&[1, 2, 2, 3, 4, 4]), is_supplier: true }
+        }
+        _ => Signature { k: rng.pick(&[0, 1, 1, 2, 3, 4]), is_supplier: false },
     }
 }
 
@@ -59,8 +61,8 @@ fn idle(k: u8) -> Method {
     method
 }
 
-/// A table that is low but where any, all or just these of some names are held. Read from its other end it falls, unless
-/// it is worse for just these.
+/// A low table, but worse where one of some names is held, or all of them, or just they. The first two, read from the other
+/// end, fall as more is held.
 fn table(rng: &mut Rng, k: u8, slope: Slope) -> Vec<u8> {
     let mut grades = vec![rng.below(2) as u8; 1 << k];
     for _ in 0..rng.between(1, 2) {
@@ -81,8 +83,8 @@ fn table(rng: &mut Rng, k: u8, slope: Slope) -> Vec<u8> {
     grades
 }
 
-fn caller(rng: &mut Rng, kinds: &[Kind], k: u8) -> Method {
-    let mut body = Body { rng, kinds, method: Method::new(k) };
+fn caller(rng: &mut Rng, signatures: &[Signature], k: u8) -> Method {
+    let mut body = Body { rng, signatures, method: Method::new(k) };
     // Unnamed nodes come before the root's tree; what they call has no effect on grades.
     if body.rng.percent(10) {
         body.call_alone();
@@ -100,14 +102,15 @@ fn caller(rng: &mut Rng, kinds: &[Kind], k: u8) -> Method {
 /// A caller's body while it grows.
 struct Body<'a> {
     rng: &'a mut Rng,
-    kinds: &'a [Kind],
+    signatures: &'a [Signature],
     method: Method,
 }
 
 impl Body<'_> {
-    /// Some method but the main that is of the kind wanted, if there is one.
-    fn pick(&mut self, is_wanted: impl Fn(&Kind) -> bool) -> Option<usize> {
-        let wanted: Vec<usize> = (1..self.kinds.len()).filter(|&number| is_wanted(&self.kinds[number])).collect();
+    /// Some wanted method, but for the main, if there is one.
+    fn pick(&mut self, is_wanted: impl Fn(&Signature) -> bool) -> Option<usize> {
+        let wanted: Vec<usize> =
+            (1..self.signatures.len()).filter(|&number| is_wanted(&self.signatures[number])).collect();
         (!wanted.is_empty()).then(|| self.rng.pick(&wanted))
     }
 
@@ -119,9 +122,9 @@ impl Body<'_> {
     /// Calls a supplier most times.
     fn call(&mut self, before: u16) -> u16 {
         let wants_any = self.rng.percent(30);
-        let callee = self.pick(|kind| kind.is_supplier || wants_any).expect("there is a supplier");
+        let callee = self.pick(|method| method.is_supplier || wants_any).expect("there is a supplier");
         let free = self.rng.pick(&[20, 50, 50, 100]);
-        let locks: Vec<u8> = (0..self.kinds[callee].k).map(|_| self.lock(free)).collect();
+        let locks: Vec<u8> = (0..self.signatures[callee].k).map(|_| self.lock(free)).collect();
         self.method.push(Node::of(op::CALL, &[before]).naming(callee as u8, &locks))
     }
 
@@ -136,8 +139,8 @@ impl Body<'_> {
 
     /// Forks a method that is no supplier if it can: the grades of such a method hang on the rule.
     fn fork(&mut self, before: u16) -> Node {
-        let caller = self.pick(|kind| kind.k > 0 && !kind.is_supplier);
-        let forked = caller.or_else(|| self.pick(|kind| kind.is_supplier)).expect("there is a supplier");
+        let caller = self.pick(|method| method.k > 0 && !method.is_supplier);
+        let forked = caller.or_else(|| self.pick(|method| method.is_supplier)).expect("there is a supplier");
         Node::of(op::FORK, &[before]).naming(forked as u8, &[])
     }
 
