@@ -16,6 +16,8 @@ type Answer = [u8; ANSWER_LEN];
 #[derive(Default)]
 pub struct Tried {
     pub programs: usize,
+    /// Times that some declared grade was worse where more is held, so that law (a) says nothing.
+    pub rising: usize,
     /// Methods whose grade falls somewhere as more locks are held.
     pub falling: usize,
     /// Programs whose declarations were struck out, and those of which some grade fell.
@@ -42,10 +44,13 @@ impl Tried {
 
 impl fmt::Display for Tried {
     fn fmt(&self, out: &mut fmt::Formatter) -> fmt::Result {
-        let Tried { programs, falling, struck, better, declared, .. } = self;
+        let Tried { programs, rising, falling, struck, better, declared, .. } = self;
         let Tried { graded_twice, higher, alike, alike_refused, alike_with_choice, .. } = self;
         writeln!(out, "  {programs} accepted programs, each grader")?;
-        writeln!(out, "  (a) more locks held, no grade worse; {falling} methods have grades that fall")?;
+        writeln!(
+            out,
+            "  (a) more locks held, no grade worse, unless declared so ({rising} times); {falling} methods have grades that fall"
+        )?;
         writeln!(
             out,
             "  (b) {struck} times declarations struck out, no grade worse; {better} times some grade better"
@@ -71,7 +76,7 @@ pub fn run(seed: u64, count: usize, graders: &[Box<dyn Grader>]) -> Result<Tried
     }
     while tried.alike < count {
         let program = if rng.percent(50) { unnamed::program(rng, Slope::Falling) } else { program(rng) };
-        if program.methods.iter().flat_map(|method| &method.declared).all(|table| is_no_worse_with_more(table)) {
+        if !has_rising(&program) {
             alike_by_both(&program, graders, &mut tried)?;
         }
     }
@@ -81,7 +86,7 @@ pub fn run(seed: u64, count: usize, graders: &[Box<dyn Grader>]) -> Result<Tried
 /// Tries the three laws on so many accepted programs.
 fn try_three(rng: &mut Rng, count: usize, graders: &[Box<dyn Grader>], tried: &mut Tried) -> Result<(), String> {
     while tried.programs < count {
-        let program = program(rng);
+        let program = if rng.percent(30) { unnamed::program(rng, Slope::Rising) } else { program(rng) };
         let mut is_accepted = false;
         for grader in graders {
             if let Some(answer) = accepted(grader.as_ref(), &program) {
@@ -125,6 +130,11 @@ fn is_no_worse<T: PartialOrd>(one: &[T], other: &[T]) -> bool {
 fn is_no_worse_with_more(table: &[u8]) -> bool {
     let one_more = |held: usize| (0..4).map(move |name| held | 1 << name).filter(|&more| more < table.len());
     (0..table.len()).all(|held| one_more(held).all(|more| table[more] <= table[held]))
+}
+
+/// Is some declared grade worse where more is held?
+fn has_rising(program: &Program) -> bool {
+    program.methods.iter().flat_map(|method| &method.declared).any(|table| !is_no_worse_with_more(table))
 }
 
 /// (d) The lowest grades by W-204 are nowhere below those by 01, so that it accepts nothing that 01 refuses.
@@ -185,8 +195,12 @@ impl Laws<'_> {
         self.found_grades_declared(rng)
     }
 
-    /// (a) No method's grade gets worse when more locks are held.
+    /// (a) No method's grade gets worse when more locks are held, if no declared one does.
     fn more_locks_held(&mut self) -> Result<(), &'static str> {
+        if has_rising(self.program) {
+            self.tried.rising += 1;
+            return Ok(());
+        }
         for method in 0..self.program.methods.len() {
             let table = table(&self.answer, self.program, method);
             if !is_no_worse_with_more(table) {
