@@ -169,6 +169,24 @@ fn largest_entry<'a>(grades: &'a [u8], u: usize, set: u8, names: &'a [u8], j: u8
     largest_entry(grades, u, set, names, j + 1, next)
 }
 
+// The callee's entry, of the caller's names for its locks. Up to the first lock without a name one set matches.
+fn entry_by_names<'a>(grades: &'a [u8], u: usize, set: u8, names: &'a [u8]) -> u8
+    requires { ⌜ (u < 256) × (length (now names) ≤ maskNames) ⌝ }
+    ensures { λ r. ⌜ r ≡ largest (tablesIn (now (grades .entry)) u) (matching (now (names .entry)) set) ⌝ }
+{
+    let mut inside = 0u8;
+    let mut j = 0u8;
+    while (j as usize) < names.len() {
+        let name = names[j as usize];
+        if name == NO_NAME {
+            return largest_entry(grades, u, set, names, j, inside);
+        }
+        inside = answered(inside, j, holds(set, name));
+        j += 1;
+    }
+    entry_at(grades, u, inside as usize)
+}
+
 // The callee's entry.
 fn callee_grade<'a>(tables: &'a [u8], grades: &'a [u8], j: usize, set: u8) -> u8
     ensures { λ r. ⌜ r ≡ calleeEntry (methodAt (programIn (now (tables .entry))) (nodeIn (now (tables .entry)) j .U) .k) (tablesIn (now (grades .entry)) (nodeIn (now (tables .entry)) j .U)) (nodeIn (now (tables .entry)) j .names) set ⌝ }
@@ -181,7 +199,7 @@ fn callee_grade<'a>(tables: &'a [u8], grades: &'a [u8], j: usize, set: u8) -> u8
         byte(frames::name(tables, j, 2)),
         byte(frames::name(tables, j, 3)),
     ];
-    largest_entry(grades, u, set, &names[..k], 0, 0)
+    entry_by_names(grades, u, set, &names[..k])
 }
 
 // A node's own part: an access, the callee's entry, a fork's 2; const where its op has none.

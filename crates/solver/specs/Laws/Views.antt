@@ -132,11 +132,17 @@ module _ (table : ℕ → ℕ) (names : List ℕ) (H j inside : ℕ) where
       ∙ over-named (entriesFrom table j inside) (getD names j 0) (drop (j + 1) names) H (ne-eqb (getD names j 0) noName e)
       ∙ ap (λ (f : ℕ → ℕ). largest f (matching (drop (j + 1) names) H)) (sym (answer-put (held H (getD names j 0))))
 
+-- from the first name on they are all the sets that match
+pub entries-start : (table : ℕ → ℕ) (names : List ℕ) (H : ℕ) → largest table (matching names H) ≡ largest (entriesFrom table 0 0) (matching (drop 0 names) H)
+entries-start table names H =
+    let whole : table ≡ entriesFrom table 0 0 = fun-ext (λ S. ap table (omega arith)) in
+    ap (λ (t : ℕ → ℕ). largest t (matching names H)) whole
+
 -- a callee's entry, from what was read off the tables: of the names that the callee takes
 pub entry-read : (t : List ℕ) (a : Assignment) (j u k n0 n1 n2 n3 r H : ℕ) (names : List ℕ) → u ≡ nodeIn t j .U
     → k ≡ min (methodAt (programIn t) u .k) (layout .names)
     → n0 ≡ getD (nodeIn t j .names) 0 0 → n1 ≡ getD (nodeIn t j .names) 1 0 → n2 ≡ getD (nodeIn t j .names) 2 0 → n3 ≡ getD (nodeIn t j .names) 3 0
-    → names ≡ take k (n0 ∷ n1 ∷ n2 ∷ n3 ∷ []) → r ≡ largest (entriesFrom (a u) 0 0) (matching (drop 0 names) H)
+    → names ≡ take k (n0 ∷ n1 ∷ n2 ∷ n3 ∷ []) → r ≡ largest (a u) (matching names H)
     → r ≡ calleeEntry (methodAt (programIn t) (nodeIn t j .U) .k) (a (nodeIn t j .U)) (nodeIn t j .names) H
 unfolding calleeEntry
 entry-read t a j u k n0 n1 n2 n3 r H names eu ek e0 e1 e2 e3 en er =
@@ -144,6 +150,5 @@ entry-read t a j u k n0 n1 n2 n3 r H names eu ek e0 e1 e2 e3 en er =
     let taken : names ≡ take (methodAt (programIn t) u .k) (nodeIn t j .names)
     = en ∙ ap (λ (i : ℕ). take i (n0 ∷ n1 ∷ n2 ∷ n3 ∷ [])) ek ∙ take-few (methodAt (programIn t) u .k) n0 n1 n2 n3
     ∙ ap (take (methodAt (programIn t) u .k)) (sym same) in
-    let whole : entriesFrom (a u) 0 0 ≡ a u = fun-ext (λ S. ap (a u) (omega arith)) in
-    er ∙ ap₂ (λ (table : ℕ → ℕ) (l : List ℕ). largest table (matching l H)) whole taken
+    er ∙ ap (λ (l : List ℕ). largest (a u) (matching l H)) taken
     ∙ ap (λ (v : ℕ). largest (a v) (matching (take (methodAt (programIn t) v .k) (nodeIn t j .names)) H)) eu

@@ -1,9 +1,8 @@
--- `solver::node::callee_grade` meets its contract: the names that the callee takes decide its sets, of which none has an answer yet.
+-- `solver::node::callee_grade` meets its contract: the names that the callee takes decide its sets.
 -- Assumes nothing.
 use mathlib.Core.Path.{refl, _∙_}
 use native.Mathlib.Omega.{arith}
 use lib.ListN.{length-take}
-use lib.Pow.{pow-pos}
 use denote.Ref.{now}
 use Rattle.solver.specs.Code.Engine.{tablesIn}
 use Rattle.solver.specs.Laws.Views.{entry-read}
@@ -44,21 +43,21 @@ byte-requires-4 c κs = search needs
 array-share-prefix-names : tie.Need-array-share-prefix-names
 array-share-prefix-names c = omega (arith, c .before .before .before .before .before .before .before .before .names-taken .ensures)
 
-slice-aggregate-largest-entry : tie.Need-slice-aggregate-largest-entry
-slice-aggregate-largest-entry c = simp length-take (omega (arith, c .before .before .before .before .before .before .before .before .before .names-taken .ensures))
+slice-aggregate-entry-by-names : tie.Need-slice-aggregate-entry-by-names
+slice-aggregate-entry-by-names c = simp length-take (omega (arith, c .before .before .before .before .before .before .before .before .before .names-taken .ensures))
 
-largest-entry-requires : tie.Need-largest-entry-requires
-largest-entry-requires c κs =
-    (c .before .before .before .before .before .before .before .before .before .before .used .ensures .small, omega arith, simp length-take (omega arith), pow-pos 0)
+entry-by-names-requires : tie.Need-entry-by-names-requires
+entry-by-names-requires c κs =
+    (c .before .before .before .before .before .before .before .before .before .before .used .ensures .small, simp length-take (omega arith))
 
 returns : tie.Need-returns
 returns c = let a = c .before .before .before .before .before .before .before .before .before .before .before .before .before .before .args in
     entry-read (now (a .tables)) (tablesIn (now (a .grades))) (a .j) (c .before .before .before .before .before .before .before .before .before .before .before .used .result) (c .before .before .before .before .before .before .before .before .before .before .names-taken .result)
-    (c .before .before .before .before .before .before .before .before .byte .result) (c .before .before .before .before .before .before .byte2 .result) (c .before .before .before .before .byte3 .result) (c .before .before .byte4 .result) (c .largest-entry .result) (a .set) _
+    (c .before .before .before .before .before .before .before .before .byte .result) (c .before .before .before .before .before .before .byte2 .result) (c .before .before .before .before .byte3 .result) (c .before .before .byte4 .result) (c .entry-by-names .result) (a .set) _
     (c .before .before .before .before .before .before .before .before .before .before .before .used .ensures .is) (c .before .before .before .before .before .before .before .before .before .before .names-taken .ensures)
     (c .before .before .before .before .before .before .before .before .byte .ensures ∙ c .before .before .before .before .before .before .before .before .before .name .ensures .is) (c .before .before .before .before .before .before .byte2 .ensures ∙ c .before .before .before .before .before .before .before .name2 .ensures .is)
     (c .before .before .before .before .byte3 .ensures ∙ c .before .before .before .before .before .name3 .ensures .is) (c .before .before .byte4 .ensures ∙ c .before .before .before .name4 .ensures .is)
-    refl (c .largest-entry .ensures)
+    refl (c .entry-by-names .ensures)
 
 pub callee-grade-spec : {M : Type 1} → statement M
 callee-grade-spec =
@@ -75,6 +74,6 @@ callee-grade-spec =
     name-requires-4
     byte-requires-4
     array-share-prefix-names
-    slice-aggregate-largest-entry
-    largest-entry-requires
+    slice-aggregate-entry-by-names
+    entry-by-names-requires
     returns)
