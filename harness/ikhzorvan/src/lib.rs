@@ -1,8 +1,9 @@
 //! A safe wrapper over the proved checker of atomicity.
 //!
 //! A program comes as a text of frames. Each method is graded for each set of its lock names that its caller may hold:
-//! const 0, mover 1, atomic 2, cmpd 3 or error 4. `grade` writes the grades of a text, or gives the [`Refusal`] that says why
-//! it has none; `session` gives what the grading program prints.
+//! const 0, mover 1, atomic 2, cmpd 3 or error 4. A lock that a call has no name for, FF, may be held or not: the worst of the
+//! callee's grades counts, over all choices for such locks. `grade` writes the grades of a text, or gives the [`Refusal`] that
+//! says why it has none; `session` gives what the grading program prints.
 //!
 //! Nothing is kept between calls, so they may run on several threads at once. Each needs [`STACK`] bytes of stack.
 //!
