@@ -38,24 +38,35 @@ static struct text smallest = {.name = "one node", .number = IKHZORVAN_ACCEPTED}
 static struct text deepest = {.name = "a chain of 1,024 nodes", .number = IKHZORVAN_ACCEPTED};
 static struct text longest = {.name = "32,768 bytes", .number = IKHZORVAN_MISPLACED};
 
-/* A main of so many nodes: a plain value, then assertions each of the node before it, so that grades are found as deep down as
- * there are nodes. */
-static void make_chain(struct text *text, unsigned nodes) {
-    char line[64];
-    snprintf(line, sizeof line, "010100%04X", nodes);
-    add(text, line);
-    snprintf(line, sizeof line, "0400%04X0000000000000000000000000000000000", nodes);
-    add(text, line);
+static void make_smallest(struct text *text) {
+    add(text, "0101000001");
+    add(text, "040000010000000000000000000000000000000000");
     add(text, "03000000000000000000000000");
-    for (unsigned node = 1; node < nodes; node++) {
+}
+
+/* A main of all nodes but one: a plain value, a call with four locks without a name, then assertions each of the node before
+ * it, so that grades are found as deep down as there are nodes, and each choice for the locks is tried down there. The node
+ * left is the callee's. */
+static void make_chain(struct text *text) {
+    const unsigned nodes = 1024;
+    char line[64];
+    snprintf(line, sizeof line, "010200%04X", nodes);
+    add(text, line);
+    snprintf(line, sizeof line, "0400%04X0000000000000000000000000000000000", nodes - 1);
+    add(text, line);
+    add(text, "040400010000000000000000000000000000000000");
+    add(text, "03000000000000000000000000");
+    add(text, "030800000000000001FFFFFFFF");
+    for (unsigned node = 2; node < nodes - 1; node++) {
         snprintf(line, sizeof line, "0307%04X000000000000000000", node - 1);
         add(text, line);
     }
+    add(text, "03000000000000000000000000");
 }
 
 /* The chain, and then a line too many up to the last byte. */
 static void make_longest(struct text *text) {
-    make_chain(text, 1024);
+    make_chain(text);
     size_t last = sizeof text->bytes - 1;
     /* An odd count of digits would be another refusal. */
     while (last - text->len > 1000) add(text, "00");
@@ -180,8 +191,8 @@ static void try_threads(void) {
 }
 
 int main(void) {
-    make_chain(&smallest, 1);
-    make_chain(&deepest, 1024);
+    make_smallest(&smallest);
+    make_chain(&deepest);
     make_longest(&longest);
     try_null();
     try_short_out();

@@ -87,7 +87,7 @@ passes-by text old s r t e =
 holds-by : (text old : List ℕ) → Gradable text (length old) → (r : ℕ) (t : List (List ℕ)) → answer (programRead text) ≡ accepted r t → answerOf text old ≡ flat (entryOf t)
 holds-by text old s r t e = bytes text old s ∙ ap (λ (y : Answer). bytesByAnswer y old) e
 
-flat-lower : (a b : Assignment) → NoWorse a b → (i : ℕ) → getD (flat a) i 0 ≤ getD (flat b) i 0
+pub flat-lower : (a b : Assignment) → NoWorse a b → (i : ℕ) → getD (flat a) i 0 ≤ getD (flat b) i 0
 flat-lower a b h i = go (decLt i answerLength)
   where
     go : Dec (i < answerLength) → getD (flat a) i 0 ≤ getD (flat b) i 0

@@ -5,7 +5,7 @@ ghost use Rattle.grades.specs.HeldSets.{maskNames, held, addWithin};
 // How many names a mask carries.
 pub const NAMES: u8 = 8;
 
-// FF, where a caller has no constant name for a lock.
+// FF, where a caller has no constant name for a lock. It is the FF of `frames::layout`, as a byte.
 pub const NO_NAME: u8 = 255;
 
 // Whether a name is in the set. FF, and any other number that the mask has no bit for, is in no set.

@@ -252,6 +252,8 @@ pub record WorkedCases : Type 0 where
   -- each FF is chosen apart: the largest entry stands where the one lock is held and the other is not
   pub chosen-apart : calling 0 2 (noName ∷ noName ∷ []) (0 ∷ 3 ∷ 1 ∷ 2 ∷ []) ≡ 3 ∷ []
   pub chosen-apart-too : calling 0 2 (noName ∷ noName ∷ []) (0 ∷ 1 ∷ 3 ∷ 2 ∷ []) ≡ 3 ∷ []
+  -- in rising order, with a name that is held between two FF
+  pub rising : matching (noName ∷ 0 ∷ noName ∷ []) 1 ≡ 2 ∷ 3 ∷ 6 ∷ 7 ∷ []
   -- beside an FF, a name is held exactly if it is in H
   pub beside-a-name : calling 1 2 (noName ∷ 0 ∷ []) (1 ∷ 2 ∷ 0 ∷ 3 ∷ []) ≡ 2 ∷ 3 ∷ []
 
@@ -284,5 +286,6 @@ worked-cases =
       supplier-by-01 = refl;
       chosen-apart = refl;
       chosen-apart-too = refl;
+      rising = refl;
       beside-a-name = refl;
     }

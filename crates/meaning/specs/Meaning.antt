@@ -61,8 +61,8 @@ firstName names = getD names 0 noName
 unfoldable pub fieldAccess : Field → (writing : Bool) → (names : List ℕ) → (H : ℕ) → ℕ
 fieldAccess field writing names H = access (field .width) (field .guard) writing (held H (firstName names))
 
--- is the callee's lock held? The answers that the caller's name for it allows. "Callee name j is held exactly if Tj is in H"; but an unnamed lock, FF,
--- is not a lock left open: it may be held or not.
+-- is the callee's lock held? The answers that the caller's name for it allows. "Callee name j is held exactly if Tj is in H"; but FF does not
+-- tell: "an unnamed lock is not a lock left open", it may be held or not.
 unfoldable pub allowed : (H name : ℕ) → List Bool
 allowed H name = cond (eqb name noName) (false ∷ true ∷ []) (held H name ∷ [])
 

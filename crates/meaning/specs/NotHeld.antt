@@ -8,11 +8,11 @@ use mathlib.Core.Path.{_≡_}
 use lib.Dec.{eqb}
 use lib.ListN.{take}
 use Rattle.grades.specs.HeldSets.{entries, held, Within, noName, packed}
-use Rattle.frames.specs.Program.{Node, Method, Program, methodAt, nodeAt}
+use Rattle.frames.specs.Program.{Method, Program, methodAt, nodeAt}
 use Rattle.counting.specs.Counting.{All}
-use Rattle.meaning.specs.Meaning.{Op, synchronised, opOf, firstName, calleeEntry}
-use Rattle.meaning.specs.Tree.{isCall}
-use Rattle.meaning.specs.Lowest.{NoWorse, rounds, lowest}
+use Rattle.meaning.specs.Meaning.{synchronised, opOf, firstName, calleeEntry, childSet}
+use Rattle.meaning.specs.Tree.{renamed}
+use Rattle.meaning.specs.Lowest.{NoWorse, entryCount, rounds, lowest}
 use Rattle.meaning.specs.Constraints.{accepted, tablesOf, answer}
 use Rattle.meaning.specs.Changes.{DeclaredAntitone}
 
@@ -37,21 +37,6 @@ pub record EntriesCompared (k : ℕ) (table : ℕ → ℕ) (names : List ℕ) (H
 
 -- ---- a whole program
 
--- a node with its names changed, if it is a call
-abbrev pub renamedBy : Op → (List ℕ → List ℕ) → Node → Node
-renamedBy op f node =
-    record {
-      op = node .op;
-      X = node .X;
-      Y = node .Y;
-      Z = node .Z;
-      U = node .U;
-      names = cond (isCall op) (f (node .names)) (node .names);
-    }
-
-abbrev pub renamed : (List ℕ → List ℕ) → Node → Node
-renamed f node = renamedBy (opOf (node .op)) f node
-
 -- each FF as the name l
 abbrev pub calledBy : (l : ℕ) → List ℕ → List ℕ
 calledBy l names = map (λ name. cond (eqb name noName) l name) names
@@ -71,13 +56,18 @@ pub record NeverHeld (p : Program) (l : ℕ) : Type 0 where
   pub locks : (m n : ℕ) → opOf (nodeAt (methodAt p m) n .op) ≡ synchronised → firstName (nodeAt (methodAt p m) n .names) ≡ l → ⊥
 
 pub record RulesCompared (p : Program) (l : ℕ) : Type 0 where
-  -- the program with l for FF is the program as 01 reads it
+  -- the program with l for FF is the program as 01 reads it: no method starts with l held, no child is graded with it held, and under a set
+  -- without l each call takes 01's entry
+  pub starts : (m H : ℕ) → H < entryCount p m → held H l ≡ false
+  pub stays : (m n H : ℕ) → held H l ≡ false
+      → held (childSet (opOf (nodeAt (methodAt p m) n .op)) (nodeAt (methodAt p m) n .names) H) l ≡ false
   pub reads : (k : ℕ) (table : ℕ → ℕ) (names : List ℕ) (H : ℕ) → held H l ≡ false
       → calleeEntry k table (calledBy l names) H ≡ entryNotHeld k table names H
   -- no grade is below 01's, and 01 accepts what is accepted
   pub nowhereBelow : NoWorse (lowest (asNotHeld l p)) (lowest p)
   pub accepts : (r : ℕ) (tables : List (List ℕ)) → answer p ≡ accepted r tables
       → answer (asNotHeld l p) ≡ accepted (rounds (asNotHeld l p)) (tablesOf (asNotHeld l p) (lowest (asNotHeld l p)))
-  -- where no declared table gets worse as more is held, the two rules agree: in the lowest tables, and in the whole answer
+  -- where no declared table gets worse as more is held, the two rules agree: in the lowest tables, the rounds and the whole answer
   pub sameLowest : DeclaredAntitone p → lowest (asNotHeld l p) ≡ lowest p
+  pub sameRounds : DeclaredAntitone p → rounds (asNotHeld l p) ≡ rounds p
   pub sameAnswer : DeclaredAntitone p → answer (asNotHeld l p) ≡ answer p

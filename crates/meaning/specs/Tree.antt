@@ -1,12 +1,12 @@
 -- A node's tree: the node itself, its children, their children, and so on. It says what a node's grade can depend on.
 -- Assumes nothing.
 use Prim.Native.Nat.{ℕ}
-use mathlib.Core.Bool.{Bool, true, false}
+use mathlib.Core.Bool.{Bool, true, false, cond}
 use mathlib.Core.List.{List, [], _∷_}
 use mathlib.Core.Logic.{_⊎_, inl, inr}
 use mathlib.Core.Path.{_≡_, refl, subst}
 use Rattle.frames.specs.Program.{Node}
-use Rattle.meaning.specs.Meaning.{Op, plainValue, read, write, sequence, choice, loop, synchronised, assertion, call, fork, noOp, children}
+use Rattle.meaning.specs.Meaning.{Op, plainValue, read, write, sequence, choice, loop, synchronised, assertion, call, fork, noOp, opOf, children}
 use Rattle.counting.specs.Counting.{All}
 
 abbrev pub Among : ℕ → List ℕ → Type 0
@@ -30,6 +30,21 @@ isCall assertion = false
 isCall call = true
 isCall fork = false
 isCall noOp = false
+
+-- a node with its names changed, if it is a call
+abbrev pub renamedBy : Op → (List ℕ → List ℕ) → Node → Node
+renamedBy op f node =
+    record {
+      op = node .op;
+      X = node .X;
+      Y = node .Y;
+      Z = node .Z;
+      U = node .U;
+      names = cond (isCall op) (f (node .names)) (node .names);
+    }
+
+abbrev pub renamed : (List ℕ → List ℕ) → Node → Node
+renamed f node = renamedBy (opOf (node .op)) f node
 
 -- what holds of each member holds of all
 pub all-among : (P : ℕ → Type 0) (xs : List ℕ) → ((x : ℕ) → Among x xs → P x) → All P xs

@@ -135,7 +135,7 @@ pub(crate) fn names_taken(tables: &[u8], u: usize) -> usize
     if k < NAMES { k } else { NAMES }
 }
 
-// The larger of two entries.
+// The larger of two entries as they are; `join` would take what is over error for error.
 fn larger(one: u8, other: u8) -> u8
     ensures { λ r. ⌜ r ≡ max one other ⌝ }
 {
@@ -161,15 +161,16 @@ fn largest_entry<'a>(grades: &'a [u8], u: usize, set: u8, names: &'a [u8], j: u8
     }
     let name = names[j as usize];
     if name == NO_NAME {
-        let free = largest_entry(grades, u, set, names, j + 1, answered(inside, j, false));
-        let held = largest_entry(grades, u, set, names, j + 1, answered(inside, j, true));
-        return larger(free, held);
+        let without = largest_entry(grades, u, set, names, j + 1, answered(inside, j, false));
+        let with = largest_entry(grades, u, set, names, j + 1, answered(inside, j, true));
+        return larger(without, with);
     }
     let next = answered(inside, j, holds(set, name));
     largest_entry(grades, u, set, names, j + 1, next)
 }
 
-// The callee's entry, of the caller's names for its locks. Up to the first lock without a name one set matches.
+// The callee's entry, of the caller's names for its locks. Up to the first lock without a name one set matches. `largest_entry` from name 0 on
+// would give the same: the loop is for calls without FF, which are most.
 fn entry_by_names<'a>(grades: &'a [u8], u: usize, set: u8, names: &'a [u8]) -> u8
     requires { ⌜ (u < 256) × (length (now names) ≤ maskNames) ⌝ }
     ensures { λ r. ⌜ r ≡ largest (tablesIn (now (grades .entry)) u) (matching (now (names .entry)) set) ⌝ }

@@ -16,17 +16,17 @@ fn on_a_small_stack(text: Vec<u8>) -> (Result<Accepted, Refusal>, Vec<u8>) {
 
 #[test]
 fn the_deepest_text() {
-    let (verdict, session) = on_a_small_stack(limits::one_method(1024).text());
-    assert_eq!(verdict.map(|accepted| accepted.methods), Ok(1));
-    assert!(session.starts_with(b"1001"));
+    let (verdict, session) = on_a_small_stack(limits::deepest().text());
+    assert_eq!(verdict.map(|accepted| accepted.methods), Ok(2));
+    assert!(session.starts_with(b"1002"));
 }
 
 #[test]
 fn the_longest_text() {
-    let mut text = limits::one_method(1024).text();
+    let mut text = limits::deepest().text();
     text.extend(b"00\n");
     text.resize(LONGEST_TEXT, b'0');
     let (verdict, session) = on_a_small_stack(text);
-    assert_eq!(verdict, Err(Refusal::Misplaced { line: 1027 }));
+    assert_eq!(verdict, Err(Refusal::Misplaced { line: 1028 }));
     assert!(session.starts_with(b"1F04"));
 }

@@ -53,6 +53,19 @@ pub fn one_method(nodes: usize) -> Program {
     Program { fields: Vec::new(), methods: vec![main] }
 }
 
+/// 1,024 nodes, all but one in a main, each naming the one before it, and far down a call with four locks without a name.
+pub fn deepest() -> Program {
+    let mut main = Method::new(0);
+    let first = main.push(Node::default());
+    let mut last = main.push(Node::of(op::CALL, &[first]).naming(1, &[NO_NAME; 4]));
+    while main.nodes.len() < 1023 {
+        last = main.push(Node::of(op::ASSERT, &[last]));
+    }
+    let mut callee = Method::new(4);
+    callee.push(Node::default());
+    Program { fields: Vec::new(), methods: vec![main, callee] }
+}
+
 /// A fork far down a long method, of a method that is an error unless all its locks are held.
 fn far_fork(rng: &mut Rng) -> Program {
     let idle = one_method(1).methods.remove(0);

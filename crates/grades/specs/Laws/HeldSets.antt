@@ -31,7 +31,7 @@ held-past k H j h g = ap (λ (n : ℕ). eqb (n % 2) 1) (div-eq-of-lt (lt-of-lt-o
 pub none-held : (j : ℕ) → held 0 j ≡ false
 none-held j = held-past 0 0 j (pow-pos 0) (omega arith)
 
--- FF counts as not held
+-- FF is in no set
 pub no-name-held : (k H : ℕ) → H < 2 ^ k → k ≤ noName → held H noName ≡ false
 no-name-held k H h g = held-past k H noName h g
 
@@ -208,7 +208,7 @@ held-bit-first b S = held-first (cond b 1 0 + S * 2) ∙ ap (λ (n : ℕ). eqb n
 pub held-bit-next : (b : Bool) (S j : ℕ) → held (cond b 1 0 + S * 2) (suc j) ≡ held S j
 held-bit-next b S j = held-next (cond b 1 0 + S * 2) j ∙ ap (λ (n : ℕ). held n j) (bit-before b S .0)
 
--- "a name is held exactly if its answer says so"
+-- what `packed` is for: a name is held exactly if its answer says so
 pub held-packed : (answers : List Bool) (j : ℕ) → held (packed answers) j ≡ getD answers j false
 unfolding packed
 held-packed [] j = none-held j

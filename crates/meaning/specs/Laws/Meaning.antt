@@ -19,8 +19,7 @@ use Rattle.grades.specs.Laws.HeldSets.{no-name-held, within-refl, add-respects}
 use Rattle.frames.specs.Program.{Field, Node, Program, fieldAt, methodAt, nodeAt}
 use Rattle.meaning.specs.Meaning.{Assignment, rootOf, Op, plainValue, read, write, sequence, choice, loop, synchronised, assertion, call, fork, noOp, opOf, listed, children, firstName, fieldAccess, calleeEntry, child, childSet, ownPart, parts, partGrade, whole, nodeGrade, below, meaning, rootTable}
 use Rattle.counting.specs.Counting.{All}
-use Rattle.meaning.specs.Tree.{InTree, itself, inside, isCall, all-among, same-tree}
-use Rattle.meaning.specs.NotHeld.{renamedBy, renamed}
+use Rattle.meaning.specs.Tree.{InTree, itself, inside, isCall, renamedBy, renamed, all-among, same-tree}
 use Rattle.meaning.specs.Laws.Calls.{entry-grows, entry-falls}
 use Rattle.counting.specs.Laws.Tests.{chosen, cond-most}
 

@@ -3,6 +3,7 @@
 -- Assumes nothing.
 use Prim.Native.Nat.{ℕ, pred, _≤_, _<_}
 use mathlib.Core.Bool.{Bool, false, not, _||_}
+use mathlib.Core.List.{List}
 use mathlib.Core.Path.{_≡_, refl, sym, ap, ap₂, _∙_, subst, fun-ext}
 use native.Mathlib.Nat.{le-of-eq, le-trans, le-antisymm}
 use lib.Dec.{T, leb, leb→le, le→leb}
@@ -13,11 +14,12 @@ use Rattle.grades.specs.HeldSets.{entries, held, add, noName}
 use Rattle.grades.specs.Laws.HeldSets.{held-past, held-add}
 use Rattle.counting.specs.Counting.{upTo}
 use Rattle.frames.specs.Program.{Node, Method, Program, plainNode, noMethod, methodAt, nodeAt}
-use Rattle.meaning.specs.Meaning.{Assignment, rootOf, opOf, firstName, calleeEntry, meaning, rootTable}
+use Rattle.meaning.specs.Meaning.{Assignment, rootOf, Op, plainValue, read, write, sequence, choice, loop, synchronised, assertion, call, fork, noOp, opOf, firstName, calleeEntry, childSet, meaning, rootTable}
 use Rattle.meaning.specs.Lowest.{methodCount, entryCount, isEntry, after, roundsFrom, lowestFrom, isDeclared, declaredTable, declarations, rounds, lowest}
 use Rattle.meaning.specs.Constraints.{Entry, Meets, namedMethod, isFork, forkAt, finding, tablesOf, answer}
 use Rattle.meaning.specs.Changes.{AntitoneAt, DeclaredAntitone}
-use Rattle.meaning.specs.NotHeld.{renamed, calledBy, methodAsNotHeld, asNotHeld, NeverHeld, RulesCompared}
+use Rattle.meaning.specs.Tree.{renamed}
+use Rattle.meaning.specs.NotHeld.{calledBy, methodAsNotHeld, asNotHeld, NeverHeld, RulesCompared}
 use Rattle.meaning.specs.Laws.Meaning.{meaning-order, unchanged, equal-within}
 use Rattle.meaning.specs.Laws.Lowest.{entry-set}
 use Rattle.meaning.specs.Laws.Constraints.{lowest-is, ClosedMet, closed-met, met-closed}
@@ -190,9 +192,29 @@ module _ (l : ℕ) (p : Program) where
               (subst (λ (i : ℕ). H < i) (counts (namedMethod q m n) ∙ ap (entryCount p) (same-named m n)) g));
         }
 
+    -- a child's set has not l where the node's has not
+    child-without : (o : Op) (names : List ℕ) (H : ℕ) → (o ≡ synchronised → firstName names ≡ l → ⊥) → held H l ≡ false → held (childSet o names H) l ≡ false
+    child-without plainValue names H other f = f
+    child-without read names H other f = f
+    child-without write names H other f = f
+    child-without sequence names H other f = f
+    child-without choice names H other f = f
+    child-without loop names H other f = f
+    child-without synchronised names H other f = without-add H H (firstName names) (other refl) (refl, f) .1
+    child-without assertion names H other f = f
+    child-without call names H other f = f
+    child-without fork names H other f = f
+    child-without noOp names H other f = f
+
+    starts-without : (m H : ℕ) → H < entryCount p m → held H l ≡ false
+    unfolding entryCount entries
+    starts-without m H h = held-past (methodAt p m .k) H l h (never .methods m)
+
     pub rules-compared : RulesCompared p l
     rules-compared =
         record {
+          starts = starts-without;
+          stays = λ m n H. child-without _ _ H (never .locks m n);
           reads = entry-reads l (never .isName);
           nowhereBelow = lowest-is q .least (lowest p) (meets01 (lowest p) (lowest-is p .meets));
           accepts = λ r tables e.
@@ -202,5 +224,6 @@ module _ (l : ℕ) (p : Program) where
                 closed = met-closed q (lowest p) (closed01 (lowest p) (closed-met p (lowest p) (when-accepted p r tables e .met)));
               });
           sameLowest = lowest-same;
+          sameRounds = rounds-same;
           sameAnswer = answer-same;
         }
