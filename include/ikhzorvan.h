@@ -31,7 +31,7 @@ extern "C" {
 
 /* How many bytes of stack are enough for a call of either function, whatever the text. A thread that calls must have as many
  * left: as a rule the main thread has, and a thread of glibc unless it is asked for less; a thread of musl has not unless it is
- * asked for more. It is measured and not proved: on x86-64 no call needs more than two thirds of it. */
+ * asked for more. It is measured and not proved: on x86-64 no call needs more than seven tenths of it. */
 #define IKHZORVAN_STACK 524288
 
 /* What ikhzorvan_grade returns. The names are those that Rattle's `checker::Verdict`, the wrapper for Rust and README have. Lines

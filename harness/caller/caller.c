@@ -129,7 +129,7 @@ static void expect_verdict(const struct call *call) {
     if (!call->is_session)
         expect(call->record[IKHZORVAN_AT_NUMBER] == call->text->number, "the verdict");
     else if (call->text->number == IKHZORVAN_ACCEPTED)
-        expect(memcmp(call->out, "1001", 4) == 0, "the session of an accepted text");
+        expect(memcmp(call->out, "10", 2) == 0, "the session of an accepted text");
     else
         expect(memcmp(call->out, "1F04", 4) == 0, "the session of a refused text");
 }
