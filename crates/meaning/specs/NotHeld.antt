@@ -1,5 +1,6 @@
 -- What W-204 changed. Document 01 counts the lock behind an FF at a call as not held. Here is that rule, of one call and of a whole program, and how
--- it compares with the rule of `Meaning`, which leaves open whether such a lock is held. Proved in `Laws.NotHeld`.
+-- it compares with the rule of `Meaning`, which leaves open whether such a lock is held. Proved in `Laws.NotHeldCalls` and
+-- `Laws.NotHeld`.
 -- Assumes nothing.
 use Prim.Native.Nat.{ℕ, _≤_, _<_}
 use mathlib.Core.Bool.{Bool, false, not, _&&_, cond}

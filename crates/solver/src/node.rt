@@ -170,7 +170,7 @@ fn largest_entry<'a>(grades: &'a [u8], u: usize, set: u8, names: &'a [u8], j: u8
 }
 
 // The callee's entry, of the caller's names for its locks. Up to the first lock without a name one set matches. `largest_entry` from name 0 on
-// would give the same: the loop is for calls without FF, which are most.
+// would give the same: the loop keeps a call without FF as quick as one set is.
 fn entry_by_names<'a>(grades: &'a [u8], u: usize, set: u8, names: &'a [u8]) -> u8
     requires { ⌜ (u < 256) × (length (now names) ≤ maskNames) ⌝ }
     ensures { λ r. ⌜ r ≡ largest (tablesIn (now (grades .entry)) u) (matching (now (names .entry)) set) ⌝ }
