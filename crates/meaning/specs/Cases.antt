@@ -18,16 +18,16 @@ use Rattle.meaning.specs.NotHeld.{asNotHeld}
 
 -- ---- nodes and methods as the cases write them
 
-abbrev node : (op X Y U : ℕ) → List ℕ → Node
+abbrev pub node : (op X Y U : ℕ) → List ℕ → Node
 node op X Y U names = record { op = op; X = X; Y = Y; Z = 0; U = U; names = names }
 
-abbrev plain : Node
+abbrev pub plain : Node
 plain = node 0 0 0 0 []
 
-abbrev undeclared : ℕ → List Node → Method
+abbrev pub undeclared : ℕ → List Node → Method
 undeclared k nodes = record { k = k; declared = false; table = []; nodes = nodes }
 
-abbrev declaredAt : ℕ → List ℕ → List Node → Method
+abbrev pub declaredAt : ℕ → List ℕ → List Node → Method
 declaredAt k table nodes = record { k = k; declared = true; table = table; nodes = nodes }
 
 -- ---- one node over given tables
@@ -52,7 +52,7 @@ calling k calleeNames names callee =
 -- ---- P12
 
 -- "main reads an unguarded narrow field, then calls itself"
-abbrev callsItself : Program
+abbrev pub callsItself : Program
 callsItself =
     record {
       fields = record { width = 0; guard = 3 } ∷ [];
@@ -62,7 +62,7 @@ callsItself =
 -- ---- the session
 
 -- the session's text, with its method 2 as given
-abbrev session : Method → Program
+abbrev pub session : Method → Program
 session m2 =
     record {
       fields = record { width = 0; guard = 1 } ∷ [];
@@ -73,7 +73,7 @@ session m2 =
           ∷ [];
     }
 
-abbrev callsTwice : List Node
+abbrev pub callsTwice : List Node
 callsTwice = plain ∷ node 8 0 0 1 (0 ∷ []) ∷ plain ∷ node 8 2 0 1 (0 ∷ []) ∷ node 3 1 3 0 [] ∷ []
 
 -- ---- the joint statement

@@ -6,3 +6,4 @@ pub mod Rounds
 pub mod Findings
 pub mod Room
 pub mod Root
+pub mod Rises

@@ -1,19 +1,16 @@
 -- Whether the engine has room for checked tables, as tests.
 -- Assumes nothing.
-use Prim.Native.Nat.{ℕ, _+_, _-_, _≤_, _<_}
+use Prim.Native.Nat.{ℕ, _+_, _-_}
 use mathlib.Core.Bool.{Bool, not, _&&_, _||_}
 use mathlib.Core.List.{List}
-use mathlib.Core.Path.{_≡_, refl, sym, ap, ap₂, _∙_, subst}
-use native.Mathlib.Numerals.{add-one}
-use native.Mathlib.Omega.{arith}
-use borrow.Author.Tests.{lt-ltb, le-ltb, le-leb, lt-leb, eq-eqb, ne-eqb}
-use lib.Dec.{T, leb, ltb, eqb, leb→le, ltb→lt}
+use lib.Dec.{leb, ltb, eqb}
 use lib.ListN.{getD}
+use Rattle.solver.specs.Nodes.{nodeIn}
 use Rattle.grades.specs.HeldSets.{maskNames}
 use Rattle.frames.specs.Layout.{layout}
 use Rattle.frames.specs.Frames.{methodsIn}
 use Rattle.frames.specs.Tables.{cell, methodOf}
-use Rattle.solver.specs.Code.Engine.{nodeIn, firstNodeFrame, lastFrame}
+use Rattle.solver.specs.Code.Engine.{firstNodeFrame, lastFrame}
 use Rattle.counting.specs.Counting.{every}
 
 unfoldable pub namesFit : List ℕ → (methods : ℕ) → Bool

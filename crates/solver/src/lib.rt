@@ -1,6 +1,7 @@
 // The lowest grades of a program's methods, and the first closed constraint that they break.
 mod constraints;
 mod node;
+mod rises;
 mod room;
 mod root;
 mod rounds;
@@ -13,6 +14,13 @@ use rounds::starts_of;
 ghost use mathlib.Core.Path.{_≡_};
 ghost use Rattle.solver.specs.Solved.{solved};
 pub use constraints::Finding;
+pub use node::Parts;
+pub use node::combined;
+pub use node::parts_of;
+pub use rises::NEVER;
+pub use rises::RISES;
+pub use rises::Risen;
+pub use rises::solve_rises;
 pub use root::Root;
 pub use root::lowest_root;
 

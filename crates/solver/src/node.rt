@@ -12,7 +12,6 @@ use grades::held::NO_NAME;
 use grades::held::holds;
 use grades::held::with_name;
 ghost use mathlib.Core.Path.{_≡_};
-ghost use mathlib.Core.List.{_∷_, []};
 ghost use mathlib.Core.Bool.{cond};
 ghost use Prim.Native.Nat.{_+_, _*_, _≤_, _<_, _^_, min, max};
 ghost use lib.ListN.{length, drop};
@@ -20,10 +19,10 @@ ghost use Rattle.grades.specs.HeldSets.{maskNames};
 ghost use Rattle.frames.specs.Layout.{layout};
 ghost use Rattle.frames.specs.Ranges.{childrenListed};
 ghost use Rattle.frames.specs.Program.{fieldAt, methodAt};
-ghost use Rattle.meaning.specs.Meaning.{opOf, childSet, fieldAccess, matching, largest, calleeEntry, meaning};
-ghost use Rattle.solver.specs.Code.Engine.{nodeIn, nodesFrom, tablesIn, childAt, entriesFrom, ownGrade, combined, firstNodeFrame, lastFrame, LocksFit};
-ghost use Rattle.solver.specs.Flat.{programIn};
-ghost use Rattle.solver.specs.Code.Parts.{PartsOf};
+ghost use Rattle.meaning.specs.Meaning.{opOf, fieldAccess, matching, largest, calleeEntry, meaning};
+ghost use Rattle.solver.specs.Code.Engine.{nodesFrom, entriesFrom, firstNodeFrame, lastFrame, LocksFit};
+ghost use Rattle.solver.specs.Nodes.{nodeIn, childAt, ownGrade, combined, maskSet, PartsOf};
+ghost use Rattle.solver.specs.Flat.{programIn, tablesIn};
 
 // A number that is known to be a byte.
 fn byte(x: usize) -> u8
@@ -84,14 +83,13 @@ fn child_z(tables: &[u8], j: usize, listed: usize) -> usize
 
 // The set that a node's children are graded under: a synchronised node adds its lock.
 fn set_under(op: usize, name: u8, set: u8) -> u8
-    requires { ⌜ (op ≡ 6 → name < 8) ⌝ }
-    ensures { λ r. ⌜ r ≡ childSet (opOf op) (name ∷ []) set ⌝ }
+    ensures { λ r. ⌜ r ≡ maskSet op name set ⌝ }
 {
     if op == 6 { with_name(set, name) } else { set }
 }
 
 // What a node comes to, of its children's grades and its own part.
-fn combined(op: usize, newly: bool, x: u8, y: u8, z: u8, own: u8) -> u8
+pub fn combined(op: usize, newly: bool, x: u8, y: u8, z: u8, own: u8) -> u8
     ensures { λ r. ⌜ r ≡ combined (opOf op) newly x y z own ⌝ }
 {
     match op {
@@ -218,19 +216,18 @@ fn own_grade<'a>(tables: &'a [u8], grades: &'a [u8], j: usize, op: usize, set: u
 
 // What a node is put together from: its op, the set that its children are graded under and whether that lock is newly taken, the
 // children, and its own part.
-struct Parts {
-    op: usize,
-    newly: bool,
-    under: u8,
-    x: usize,
-    y: usize,
-    z: usize,
-    own: u8,
+pub struct Parts {
+    pub op: usize,
+    pub newly: bool,
+    pub under: u8,
+    pub x: usize,
+    pub y: usize,
+    pub z: usize,
+    pub own: u8,
 }
 
-fn parts_of<'a>(tables: &'a [u8], grades: &'a [u8], j: usize, set: u8) -> Parts
-    requires { ⌜ LocksFit (now tables) ⌝ }
-    requires { ⌜ (firstNodeFrame (now tables) ≤ j) × (j < lastFrame (now tables)) ⌝ }
+// Of the node in frame j under a set. A child that the op does not list is 65536; a lock that a mask has no bit for, as no text has one, is not added.
+pub fn parts_of<'a>(tables: &'a [u8], grades: &'a [u8], j: usize, set: u8) -> Parts
     ensures { λ r. ⌜ PartsOf (programIn (now (tables .entry))) (tablesIn (now (grades .entry))) (nodeIn (now (tables .entry)) j) set r ⌝ }
 {
     let op = frames::op(tables, j);

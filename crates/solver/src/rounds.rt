@@ -5,15 +5,13 @@ use frames::layout::GRADES;
 use frames::layout::MOST_METHODS;
 ghost use mathlib.Core.Path.{_≡_};
 ghost use mathlib.Core.Bool.{true, false};
-ghost use Prim.Native.Nat.{ℕ, _+_, _*_, _<_, _≤_, _^_};
-ghost use lib.ListN.{length, getD};
+ghost use Prim.Native.Nat.{_+_, _*_, _<_, _≤_};
 ghost use Rattle.frames.specs.Layout.{layout, answerLength};
 ghost use Rattle.frames.specs.Frames.{methodsIn};
 ghost use Rattle.frames.specs.Tables.{cell};
 ghost use Rattle.meaning.specs.Meaning.{rootTable};
 ghost use Rattle.meaning.specs.Lowest.{rounds, lowest};
-ghost use Rattle.solver.specs.Code.Engine.{tablesIn};
-ghost use Rattle.solver.specs.Flat.{programIn, programIn, flat, blank};
+ghost use Rattle.solver.specs.Flat.{programIn, flat, blank, tablesIn};
 ghost use Rattle.solver.specs.Code.Rounds.{Fits, Starts, At, Done, Still, SameTo, startTables, roundTables, isFixed};
 
 // The lowest tables, and after how many rounds they were reached.
@@ -75,7 +73,7 @@ fn start_method(tables: &[u8], new: &mut [u8], m: usize)
 }
 
 // The declared tables, and every other table all 0.
-fn start(tables: &[u8]) -> [u8; ANSWER_LENGTH]
+pub(crate) fn start(tables: &[u8]) -> [u8; ANSWER_LENGTH]
     requires { ⌜ Fits (now tables) ⌝ }
     ensures { λ r. ⌜ r ≡ startTables (now (tables .entry)) ⌝ }
 {
@@ -109,7 +107,7 @@ fn round_method<'a>(tables: &'a [u8], old: &'a [u8], new: &mut [u8], first: usiz
 }
 
 // One round: every undeclared method gets its root's table, all worked out from the tables before the round.
-fn round<'a>(
+pub(crate) fn round<'a>(
     tables: &'a [u8],
     old: &'a [u8; ANSWER_LENGTH],
     starts: &'a [usize],
@@ -132,7 +130,7 @@ fn round<'a>(
 }
 
 // Whether two tables are the same up to place n.
-fn same<'a>(old: &'a [u8; ANSWER_LENGTH], new: &'a [u8; ANSWER_LENGTH], n: usize) -> bool
+pub(crate) fn same<'a>(old: &'a [u8; ANSWER_LENGTH], new: &'a [u8; ANSWER_LENGTH], n: usize) -> bool
     requires { ⌜ n ≤ answerLength ⌝ }
     ensures { λ r. ⌜ SameTo n (now (old .entry)) (now (new .entry)) r ⌝ }
 {

@@ -10,6 +10,7 @@ use native.Mathlib.Omega.{arith}
 use borrow.Author.Tests.{lt-ltb, le-leb, eqb-true}
 use lib.Dec.{T, leb, ltb, eqb}
 use lib.ListN.{length, getD}
+use Rattle.solver.specs.Nodes.{nodeIn}
 use Rattle.grades.specs.HeldSets.{maskNames}
 use Rattle.frames.specs.Program.{Node, Method, methodAt, nodeAt, plainNode}
 use Rattle.frames.specs.Layout.{layout}
@@ -21,7 +22,7 @@ use Rattle.frames.specs.Laws.Program.{method-is, fields-length, methods-length}
 use Rattle.frames.specs.WellFormed.{WellFormed, nameAt}
 use Rattle.frames.specs.Laws.WellFormed.{total-same}
 use Rattle.counting.specs.Laws.Counting.{every-of}
-use Rattle.solver.specs.Code.Engine.{nodeIn, firstNodeFrame, lastFrame}
+use Rattle.solver.specs.Code.Engine.{firstNodeFrame, lastFrame}
 use Rattle.solver.specs.Laws.Flat.{first-more}
 use Rattle.solver.specs.Room.{namesFit, lockFits, locksFit, hasRoom}
 use Rattle.counting.specs.Counting.{total, every}

@@ -51,6 +51,23 @@ first-unique n f i h t least = go (decLt i (first n f)) (decLt (first n f) i)
     go (no g) (yes l) = absurd (clash (f (first n f)) (first-passes n f (omega arith)) (least (first n f) l))
     go (no g) (no l) = omega arith
 
+-- none passes
+pub first-none : (n : ℕ) (f : ℕ → Bool) → ((i : ℕ) → i < n → f i ≡ false) → first n f ≡ n
+first-none n f h = go (decLt (first n f) n)
+  where
+    go : Dec (first n f < n) → first n f ≡ n
+    go (yes l) = absurd (subst T (h (first n f) l) (first-passes n f l))
+    go (no l) = omega (arith, first-bound n f)
+
+-- one number more, which passes
+pub first-more : (n : ℕ) (f : ℕ → Bool) → T (f n) → first (suc n) f ≡ first n f
+first-more n f here =
+    first-unique (suc n) f (first n f) (omega (arith, first-bound n f)) (go (decLt (first n f) n)) (λ j l. first-least n f j l)
+  where
+    go : Dec (first n f < n) → T (f (first n f))
+    go (yes l) = first-passes n f l
+    go (no l) = let same : n ≡ first n f = omega (arith, first-bound n f) in subst (λ (i : ℕ). T (f i)) same here
+
 -- tests that agree below n pass first at one number
 pub first-same : (n : ℕ) (f g : ℕ → Bool) → ((i : ℕ) → i < n → f i ≡ g i) → first n f ≡ first n g
 unfolding first

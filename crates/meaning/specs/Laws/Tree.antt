@@ -149,6 +149,10 @@ module _ (p : Program) (w : WellFormed p) (m : ℕ) where
       one i i′ c x x′ (no l) (yes k) = absurd (again i′ i c x′ x k)
       one i i′ c x x′ (no l) (no k) = omega arith
 
+-- in a program that a text gives children are below their nodes
+pub child-below : (p : Program) → WellFormed p → (m i c : ℕ) → Names (nodeAt (methodAt p m)) i c → c < i
+child-below p w m i c x = well-formed-trees p w m .below i c x
+
 -- ---- two trees
 
 module _ (nodes : ℕ → Node) where

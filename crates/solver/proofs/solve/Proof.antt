@@ -1,7 +1,6 @@
 -- `solver::solve` meets its contract: what has room is solved by rounds, and its constraints are gone through in order.
 -- Assumes nothing.
 use mathlib.Core.Path.{_≡_, sym, ap, ap₂, _∙_}
-use native.Mathlib.Omega.{arith}
 use denote.Ref.{now}
 use mathlib.Core.Bool.{Bool, true}
 use mathlib.Core.List.{List}
@@ -13,8 +12,7 @@ use borrow.Author.Tests.{not-true, not-false}
 use Rattle.meaning.specs.Meaning.{Assignment}
 use Rattle.counting.specs.Counting.{upTo}
 use Rattle.meaning.specs.Constraints.{finding}
-use Rattle.solver.specs.Code.Engine.{tablesIn}
-use Rattle.solver.specs.Flat.{programIn, blank, flat}
+use Rattle.solver.specs.Flat.{programIn, blank, flat, tablesIn}
 use Rattle.solver.specs.Room.{hasRoom}
 use Rattle.solver.specs.Laws.Rounds.{lowest-read}
 use Rattle.solver.specs.Solved.{solvedBy, solved}

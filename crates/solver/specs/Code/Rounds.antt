@@ -9,9 +9,9 @@ use lib.ListN.{length, getD, replicate}
 use Rattle.frames.specs.Frames.{methodsIn}
 use Rattle.frames.specs.Tables.{cell, methodOf, firstFrame}
 use Rattle.meaning.specs.Lowest.{isEntry, declarations, isDeclared, start, round}
-use Rattle.solver.specs.Code.Engine.{tablesIn, lastFrame, LocksFit}
+use Rattle.solver.specs.Code.Engine.{lastFrame, LocksFit}
 use Rattle.frames.specs.Layout.{layout, layout, answerLength}
-use Rattle.solver.specs.Flat.{programIn, flat}
+use Rattle.solver.specs.Flat.{programIn, flat, tablesIn}
 
 -- tables that flat tables have room for
 pub record Fits (t : List ℕ) : Type 0 where

@@ -5,16 +5,18 @@ use mathlib.Core.Bool.{Bool, true, false, not, cond}
 use mathlib.Core.List.{List, [], _∷_, _++_, map}
 use mathlib.Core.Path.{_≡_, refl, sym, ap, ap₂, _∙_, subst}
 use native.Mathlib.Omega.{arith}
-use lib.Dec.{ltb, leb·suc-zero}
+use native.Mathlib.Decide.{ℕ-discrete}
+use borrow.Author.Tests.{lt-ltb, eq-eqb, ne-eqb}
+use lib.Dec.{ltb, eqb, leb·suc-zero}
 use lib.ListN.{getD, List·getD-eq-default}
 use Rattle.grades.specs.Grades.{const, error, compose}
 use Rattle.grades.specs.Laws.Grades.{cap-grade, compose-error, compose-const}
-use Rattle.grades.specs.HeldSets.{held, add}
+use Rattle.grades.specs.HeldSets.{maskNames, held, add, addWithin}
 use Rattle.frames.specs.Program.{Node, Program}
 use Rattle.frames.specs.Ranges.{childrenListed}
 use Rattle.meaning.specs.Meaning.{Assignment, Op, plainValue, read, write, sequence, choice, loop, synchronised, assertion, call, fork, noOp, opOf, listed, children, childSet, ownPart, parts, partGrade, child, whole, firstName, nodeGrade, below, meaning}
 use Rattle.meaning.specs.Laws.Meaning.{below-error, below-none}
-use Rattle.solver.specs.Code.Engine.{noChild, childAt, ownGrade, combined}
+use Rattle.solver.specs.Nodes.{noChild, childAt, ownGrade, combined, maskSet}
 
 -- ---- absent parts
 
@@ -133,7 +135,7 @@ pub combined-past : (newly : Bool) (x y z own op : ℕ) → 10 ≤ op → combin
 combined-past newly x y z own op g = at-noOp (λ (o : Op). combined o newly x y z own ≡ error) refl op g
 
 -- the children that an op lists, by number
-childrenListed-past : (op : ℕ) → 10 ≤ op → childrenListed op ≡ 0
+pub childrenListed-past : (op : ℕ) → 10 ≤ op → childrenListed op ≡ 0
 unfolding childrenListed
 childrenListed-past op h = List·getD-eq-default (0 ∷ 1 ∷ 2 ∷ 2 ∷ 3 ∷ 2 ∷ 1 ∷ 1 ∷ 1 ∷ 1 ∷ []) 0 h
 
@@ -178,24 +180,6 @@ cond-yes b x y e = ap (λ (c : Bool). cond c x y) e
 pub cond-no : (b : Bool) (x y : ℕ) → b ≡ false → cond b x y ≡ y
 cond-no b x y e = ap (λ (c : Bool). cond c x y) e
 
--- the set a child is graded under hangs on the first name alone
-by-first-name : (o : Op) (name : ℕ) (names : List ℕ) (H : ℕ) → name ≡ firstName names → childSet o (name ∷ []) H ≡ childSet o names H
-unfolding firstName
-by-first-name plainValue name names H e = refl
-by-first-name read name names H e = refl
-by-first-name write name names H e = refl
-by-first-name sequence name names H e = refl
-by-first-name choice name names H e = refl
-by-first-name loop name names H e = refl
-by-first-name synchronised name names H e = ap (add H) e
-by-first-name assertion name names H e = refl
-by-first-name call name names H e = refl
-by-first-name fork name names H e = refl
-by-first-name noOp name names H e = refl
-
-pub set-by-name : (op op′ name : ℕ) (names : List ℕ) (H : ℕ) → op ≡ op′ → name ≡ firstName names → childSet (opOf op) (name ∷ []) H ≡ childSet (opOf op′) names H
-set-by-name op op′ name names H e f = ap (λ (n : ℕ). childSet (opOf n) (name ∷ []) H) e ∙ by-first-name (opOf op′) name names H f
-
 -- a node's meaning, from its parts one by one
 pub assembled : (p : Program) (a : Assignment) (nodes : ℕ → Node) (n H op under x y z own va vb vc r : ℕ) (newly : Bool) → n ≤ noChild
     → op ≡ nodes n .op → newly ≡ not (held H (firstName (nodes n .names))) → under ≡ childSet (opOf (nodes n .op)) (nodes n .names) H
@@ -214,3 +198,12 @@ assembled p a nodes n H op under x y z own va vb vc r newly few eop enewly eunde
     (below p a nodes n (childAt (nodes n) 1) under) i j)
     Z eown
     ∙ sym (meaning-combined p a nodes n H under few (sym eunder))
+
+-- a mask has a bit for every lock that is taken, so what stands in it is the set that `meaning` has
+pub mask-set : (op : ℕ) (names : List ℕ) (H : ℕ) → (op ≡ 6 → firstName names < maskNames) → maskSet op (firstName names) H ≡ childSet (opOf op) names H
+unfolding maskSet addWithin opOf
+mask-set op names H fits = go (ℕ-discrete op 6)
+  where
+    go : Dec (op ≡ 6) → cond (eqb op 6) (cond (ltb (firstName names) maskNames) (add H (firstName names)) H) H ≡ childSet (opOf op) names H
+    go (yes six) = rw (eq-eqb op 6 six) (rw (lt-ltb (firstName names) maskNames (fits six)) (ap (λ (n : ℕ). childSet (opOf n) names H) (sym six)))
+    go (no other) = rw (ne-eqb op 6 other) (sym (set-stays op other names H))

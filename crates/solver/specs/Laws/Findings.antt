@@ -9,6 +9,7 @@ use native.Mathlib.Omega.{arith}
 use borrow.Author.Tests.{lt-ltb, le-ltb, le-leb, lt-leb}
 use lib.Dec.{T, leb, ltb, eqb, T-not, lit≤}
 use lib.ListN.{length, getD}
+use Rattle.solver.specs.Nodes.{nodeIn}
 use Rattle.frames.specs.Layout.{layout}
 use Rattle.grades.specs.Grades.{const, cmpd}
 use Rattle.grades.specs.HeldSets.{held, entries}
@@ -25,7 +26,7 @@ use Rattle.counting.specs.Laws.Counting.{first-bound, first-passes, first-uniqu
 use Rattle.meaning.specs.Lowest.{entryCount, declaredTable}
 use Rattle.meaning.specs.Constraints as constraints
 use Rattle.meaning.specs.Constraints.{Closed, declaredRoot, mainTable, forkedTable, namedMethod, setsOf, brokenSet, isBroken, noneBroken, broken, firstBroken, isFork, forkAt, forksOf, closedOf, closedOfAll, finding}
-use Rattle.solver.specs.Code.Engine.{nodeIn, nodesFrom}
+use Rattle.solver.specs.Code.Engine.{nodesFrom}
 use Rattle.solver.specs.Laws.Engine.{op-cases, op-past}
 use Rattle.solver.specs.Laws.Views.{method-in, method-past}
 use Rattle.solver.specs.Flat.{programIn}

@@ -2,15 +2,14 @@
 -- Assumes nothing.
 use Prim.Native.Nat.{ℕ, zero, suc, pred, _+_, _*_, _-_, _/_, _%_, _^_, _≤_, _<_, min}
 use mathlib.Core.Bool.{Bool, true, false, not, cond, _&&_}
-use mathlib.Core.List.{List, [], _∷_}
-use mathlib.Core.Path.{_≡_, refl, sym, ap, ap₂, _∙_, subst, fun-ext}
+use mathlib.Core.List.{List}
+use mathlib.Core.Path.{_≡_, refl, sym, ap, ap₂, _∙_, subst}
 use native.Mathlib.Decide.{decLt}
-use native.Mathlib.Nat.{mul-comm}
 use native.Mathlib.Numerals.{sub-one}
 use native.Mathlib.Omega.{arith}
 use borrow.Author.Tests.{lt-ltb, le-ltb}
 use lib.Dec.{T, eqb, ltb}
-use lib.ListN.{length, getD, set, length-set, List·getD-eq-default, replicate, length-replicate, getD-replicate}
+use lib.ListN.{length, getD, set, length-set, List·getD-eq-default, length-replicate, getD-replicate}
 use lib.Seq.{getD-set-same, getD-set-other, ext-getD}
 use lib.Pow.{pow-mono}
 use Rattle.frames.specs.Layout.{layout, answerLength}
@@ -25,9 +24,9 @@ use Rattle.frames.specs.Laws.Tables.{nodes-length, nodes-before-more}
 use Rattle.meaning.specs.Meaning.{Assignment, nodeGrade, below, meaning, rootOf, rootTable, whole, parts, children, opOf}
 use Rattle.meaning.specs.Lowest.{methodCount, entryCount, isEntry, onEntries, start, round, isDeclared, declaredTable, declarations}
 use Rattle.meaning.specs.Laws.Meaning.{root-error}
-use Rattle.solver.specs.Code.Engine.{nodesFrom, tablesIn, lastFrame}
+use Rattle.solver.specs.Code.Engine.{nodesFrom, lastFrame}
 use Rattle.solver.specs.Laws.Views.{method-in, method-count}
-use Rattle.solver.specs.Flat.{programIn, blank, flat}
+use Rattle.solver.specs.Flat.{programIn, blank, flat, tablesIn}
 use Rattle.counting.specs.Laws.Lists.{length-tabulate, getD-tabulate}
 use Rattle.solver.specs.Code.Rounds.{Fits, Starts, Done, isFixed, startTables, roundTables}
 

@@ -4,9 +4,9 @@ use Prim.Native.Nat.{ℕ, _+_, _-_, _≤_, _<_}
 use mathlib.Core.Bool.{Bool, true, false, not, _&&_, _||_}
 use mathlib.Core.List.{List}
 use mathlib.Core.Path.{_≡_, refl, sym, ap, ap₂, _∙_, subst}
-use native.Mathlib.Numerals.{add-one}
 use native.Mathlib.Omega.{arith}
 use borrow.Author.Tests.{lt-ltb, le-ltb, le-leb, lt-leb, eq-eqb, ne-eqb}
+use Rattle.solver.specs.Nodes.{nodeIn}
 use Rattle.counting.specs.Laws.Counting.{every-at, every-fails, every-more}
 use Rattle.meaning.specs.Meaning.{firstName}
 use lib.Dec.{T, leb, ltb, eqb, leb→le, ltb→lt}
@@ -17,7 +17,7 @@ use Rattle.counting.specs.Laws.Tests.{both-left, both-right}
 use Rattle.frames.specs.Layout.{layout}
 use Rattle.frames.specs.Frames.{methodsIn}
 use Rattle.frames.specs.Tables.{cell, methodOf}
-use Rattle.solver.specs.Code.Engine.{nodeIn, firstNodeFrame, lastFrame, LocksFit}
+use Rattle.solver.specs.Code.Engine.{firstNodeFrame, lastFrame, LocksFit}
 use Rattle.solver.specs.Room.{namesFit, lockFits, locksFit, hasRoom}
 use Rattle.solver.specs.Laws.Views.{first-name}
 use Rattle.solver.specs.Code.Rounds.{Fits}

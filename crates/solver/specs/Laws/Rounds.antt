@@ -3,7 +3,7 @@
 use Prim.Native.Nat.{ℕ, zero, suc, _+_, _*_, _/_, _%_, _≤_, _<_}
 use mathlib.Core.Bool.{Bool, true, false, not, cond}
 use mathlib.Core.List.{List}
-use mathlib.Core.Path.{_≡_, refl, sym, ap, _∙_, subst, fun-ext}
+use mathlib.Core.Path.{_≡_, refl, sym, ap, _∙_, subst, subst₂, fun-ext}
 use native.Mathlib.Decide.{decLt}
 use native.Mathlib.Nat.{mul-suc}
 use native.Mathlib.Omega.{arith}
@@ -19,9 +19,8 @@ use Rattle.counting.specs.Counting.{total}
 use Rattle.counting.specs.Laws.Counting.{every-of}
 use Rattle.meaning.specs.Lowest.{methodCount, entryCount, isEntry, after, round, same, settled, openEntries, roundsFrom, lowestFrom, rounds, lowest, isDeclared, declarations}
 use Rattle.meaning.specs.Laws.Lowest.{after-fixed, after-outside, same-at, rounds-bound, rounds-settled, rounds-unique}
-use Rattle.solver.specs.Code.Engine.{tablesIn}
 use Rattle.solver.specs.Laws.Views.{method-count}
-use Rattle.solver.specs.Flat.{programIn, flat}
+use Rattle.solver.specs.Flat.{programIn, flat, tablesIn}
 use Rattle.solver.specs.Laws.Flat.{flat-length, flat-at, flat-entry, flat-read, few-entries, entry-count, no-entry-far, no-entry-wide, not-entry}
 use Rattle.solver.specs.Code.Rounds.{Fits, Still, SameTo, startTables, roundTables}
 
@@ -45,7 +44,7 @@ module _ (t : List ℕ) (fits : Fits t) where
   outside : (n m H : ℕ) → isEntry (programIn t) m H ≡ false → afterRounds t n m H ≡ 0
   outside n m H e = after-outside (programIn t) (declarations (programIn t)) n m H (not-entry (isEntry (programIn t) m H) e)
 
-  read-back : (n : ℕ) → tablesIn (flat (afterRounds t n)) ≡ afterRounds t n
+  pub read-back : (n : ℕ) → tablesIn (flat (afterRounds t n)) ≡ afterRounds t n
   read-back n =
       fun-ext
       (λ m. fun-ext
@@ -159,3 +158,10 @@ module _ (t : List ℕ) (fits : Fits t) where
           go : (b : Bool) → cond b 0 (entryCount (programIn t) m) ≤ layout .grades
           go true = omega arith
           go false = let within : m < methodsIn (cell t) = omega (arith, method-count t) in omega (arith, entry-count t fits m within, few-entries t fits m within)
+
+  -- what a comparison of tables says, of the rounds
+  pub compared : (used n : ℕ) (old new : List ℕ) (r : Bool) → used ≡ layout .grades * methodsIn (cell t) → old ≡ flat (afterRounds t n)
+      → new ≡ roundTables t old → SameTo used old new r → SameTo (layout .grades * methodsIn (cell t)) (flat (afterRounds t n)) (flat (afterRounds t (suc n))) r
+  compared used n old new r u o e s =
+      subst (λ (i : ℕ). SameTo i (flat (afterRounds t n)) (flat (afterRounds t (suc n))) r) u
+      (subst₂ (λ (x y : List ℕ). SameTo used x y r) o (e ∙ ap (roundTables t) o ∙ round-next n) s)

@@ -12,6 +12,7 @@ use borrow.Author.Tests.{ne-eqb}
 use lib.Dec.{eqb}
 use lib.ListN.{length, getD, take, drop, drop-of-length-le}
 use lib.Seq.{take-all, drop-cons}
+use Rattle.solver.specs.Nodes.{nodeIn}
 use Rattle.frames.specs.Layout.{layout}
 use Rattle.grades.specs.Grades.{error}
 use Rattle.grades.specs.Access.{readAccess, writeAccess, access}
@@ -22,7 +23,7 @@ use Rattle.frames.specs.Tables.{cell, fieldOf, methodOf, programOf}
 use Rattle.meaning.specs.Meaning.{firstName, fieldAccess, matching, largest, calleeEntry, Assignment}
 use Rattle.meaning.specs.Laws.Calls.{over-none, over-unnamed, over-named}
 use Rattle.meaning.specs.Lowest.{methodCount}
-use Rattle.solver.specs.Code.Engine.{nodeIn, entriesFrom}
+use Rattle.solver.specs.Code.Engine.{entriesFrom}
 use Rattle.counting.specs.Counting.{tabulate}
 use Rattle.counting.specs.Laws.Lists.{length-tabulate, getD-tabulate, getD-past-tabulate}
 use Rattle.solver.specs.Flat.{programIn}

@@ -1,18 +1,16 @@
 -- `solver::constraints::declared_broken` meets its contract. The loop's invariant: at no set passed is the constraint broken.
 -- Assumes nothing.
-use mathlib.Core.Path.{_≡_, refl, sym, ap, ap₂, _∙_, subst}
+use mathlib.Core.Path.{_≡_}
 use native.Mathlib.Omega.{arith}
 use borrow.Author.Needs.{needs}
 use denote.Ref.{now}
-use Prim.Native.Nat.{ℕ, _+_, _-_, _≤_, _<_, _^_}
+use Prim.Native.Nat.{ℕ, _-_, _≤_, _<_}
 use borrow.Author.Count.{below-more}
-use lib.ListN.{getD}
 use Rattle.meaning.specs.Meaning.{rootTable}
 use Rattle.meaning.specs.Lowest.{declaredTable}
-use Rattle.solver.specs.Code.Engine.{tablesIn}
 use Rattle.solver.specs.Laws.Findings.{declared-is, declared-entry, sets-few}
 use Rattle.solver.proofs.constraints.declared_broken.Statement.{statement}
-use Rattle.solver.specs.Flat.{programIn}
+use Rattle.solver.specs.Flat.{programIn, tablesIn}
 use Rattle.solver.proofs.constraints.declared_broken.Tie as tie
 
 abbrev Inv-loop : tie.InvT-loop

@@ -12,13 +12,12 @@ use Rattle.frames.specs.Frames.{methodsIn}
 use Rattle.frames.specs.Tables.{cell}
 use Rattle.counting.specs.Counting.{upTo}
 use Rattle.meaning.specs.Constraints.{firstBroken, closedOf, finding}
-use Rattle.solver.specs.Code.Engine.{tablesIn}
 use Rattle.solver.specs.Laws.Findings.{listsFrom, methods-all, lists-next, lists-end, second-broken, first-kept}
 use Rattle.solver.specs.declared.constraints.Finding.{Finding}
 use Rattle.solver.specs.declared.constraints.Finding.the-variants.{Met}
 use Rattle.solver.proofs.constraints.Finding.{enum}
 use Rattle.solver.proofs.constraints.first_broken.Statement.{statement}
-use Rattle.solver.specs.Flat.{programIn}
+use Rattle.solver.specs.Flat.{programIn, tablesIn}
 use Rattle.solver.specs.Findings.{found}
 use Rattle.solver.proofs.constraints.first_broken.Tie as tie
 

@@ -1,10 +1,10 @@
 -- `solver::constraints::forks_broken` meets its contract. The loop's invariant: the first broken constraint is that of the forks not passed yet.
 -- Assumes nothing.
-use mathlib.Core.Path.{_≡_, refl, sym, ap, ap₂, _∙_, subst}
+use mathlib.Core.Path.{_≡_, sym, ap, _∙_}
 use native.Mathlib.Omega.{arith}
 use borrow.Author.Needs.{needs}
 use denote.Ref.{now}
-use Prim.Native.Nat.{ℕ, _+_, _-_, _≤_, _<_, _^_}
+use Prim.Native.Nat.{_+_, _-_, _≤_, _<_}
 use mathlib.Core.Logic.{⊎-elim}
 use Rattle.frames.specs.Links.{nodeCount}
 use Rattle.frames.specs.Tables.{cell}
@@ -13,10 +13,9 @@ use Rattle.meaning.specs.Constraints.{firstBroken, forksOf, forkAt, forkedTable
 use Rattle.counting.specs.Counting.{onlyIf}
 use mathlib.Core.List.{_++_}
 use Rattle.meaning.specs.Lowest.{entryCount}
-use Rattle.solver.specs.Code.Engine.{tablesIn}
 use Rattle.solver.specs.Laws.Findings.{listsFrom, forkOf, forks-all, lists-next, lists-end, is-fork, no-fork, fork-names, fork-set, if-not, if-broken, if-met}
 use Rattle.solver.proofs.constraints.forks_broken.Statement.{statement}
-use Rattle.solver.specs.Flat.{programIn}
+use Rattle.solver.specs.Flat.{programIn, tablesIn}
 use Rattle.solver.specs.Findings.{found}
 use Rattle.solver.proofs.constraints.forks_broken.Tie as tie
 

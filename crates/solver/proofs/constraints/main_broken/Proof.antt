@@ -1,13 +1,11 @@
 -- `solver::constraints::main_broken` meets its contract: the one entry decides.
 -- Assumes nothing.
-use mathlib.Core.Path.{_≡_, refl, sym, ap, ap₂, _∙_, subst}
 use native.Mathlib.Omega.{arith}
 use denote.Ref.{now}
-use Rattle.solver.specs.Code.Engine.{tablesIn}
 use Rattle.solver.specs.Laws.Findings.{main-broken, main-met}
 use borrow.Author.Needs.{needs}
 use Rattle.solver.proofs.constraints.main_broken.Statement.{statement}
-use Rattle.solver.specs.Flat.{programIn}
+use Rattle.solver.specs.Flat.{programIn, tablesIn}
 use Rattle.solver.proofs.constraints.main_broken.Tie as tie
 
 entry-at-requires : tie.Need-entry-at-requires

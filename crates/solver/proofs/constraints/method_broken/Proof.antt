@@ -1,22 +1,20 @@
 -- `solver::constraints::method_broken` meets its contract: kind 1, kind 2 and the forks, each passed only where it is met.
 -- Assumes nothing.
-use mathlib.Core.Path.{_≡_, refl, sym, ap, ap₂, _∙_, subst}
+use mathlib.Core.Path.{_≡_, sym, ap, _∙_}
 use native.Mathlib.Omega.{arith}
 use denote.Ref.{now}
-use Prim.Native.Nat.{ℕ, _<_}
 use mathlib.Core.Logic.{⊎-elim}
-use mathlib.Core.List.{List, _++_}
+use mathlib.Core.List.{_++_}
 use borrow.Author.Tests.{eq-eqb, ne-eqb}
 use lib.Dec.{eqb}
 use Rattle.counting.specs.Counting.{onlyIf}
 use Rattle.meaning.specs.Constraints.{firstBroken, closedOf, forksOf, declaredRoot, mainTable}
 use Rattle.meaning.specs.Lowest.{isDeclared}
-use Rattle.solver.specs.Code.Engine.{tablesIn}
 use Rattle.solver.specs.Laws.Flat.{fixed-declared}
 use Rattle.solver.specs.Laws.Findings.{if-not, if-broken, if-met}
 use borrow.Author.Needs.{needs}
 use Rattle.solver.proofs.constraints.method_broken.Statement.{statement}
-use Rattle.solver.specs.Flat.{programIn}
+use Rattle.solver.specs.Flat.{programIn, tablesIn}
 use Rattle.solver.specs.Findings.{found}
 use Rattle.solver.proofs.constraints.method_broken.Tie as tie
 

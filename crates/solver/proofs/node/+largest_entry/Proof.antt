@@ -7,8 +7,9 @@ use mathlib.Core.Bool.{Bool, true, false, cond}
 use mathlib.Core.Path.{_≡_, sym, ap, ap₂, _∙_}
 use denote.Ref.{now}
 use lib.ListN.{length, drop}
+use Rattle.solver.specs.Flat.{tablesIn}
 use Rattle.meaning.specs.Meaning.{matching, largest}
-use Rattle.solver.specs.Code.Engine.{tablesIn, entriesFrom}
+use Rattle.solver.specs.Code.Engine.{entriesFrom}
 use Rattle.solver.specs.Laws.Views.{answered-below, entriesAfter, entries-end, entries-unnamed, entries-named}
 use Prim.Native.Nat.{ℕ, _+_, _*_, _-_, _^_, _<_, max}
 use borrow.Fn.Kinds.{In}

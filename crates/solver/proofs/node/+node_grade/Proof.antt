@@ -3,17 +3,18 @@
 use borrow.Author.Needs.{needs}
 use mathlib.Core.Logic.{⊎-elim}
 use native.Mathlib.Omega.{arith}
-use Prim.Native.Nat.{ℕ, _<_}
+use Prim.Native.Nat.{ℕ, _+_, _<_}
 use mathlib.Core.Path.{_≡_, sym, _∙_}
 use denote.Ref.{now}
+use Rattle.grades.specs.HeldSets.{maskNames}
 use Rattle.frames.specs.Program.{Node, Program}
-use Rattle.meaning.specs.Meaning.{Assignment, below}
-use Rattle.solver.specs.Code.Engine.{tablesIn, nodesFrom}
+use Rattle.meaning.specs.Meaning.{Assignment, firstName, below}
+use Rattle.solver.specs.Code.Engine.{nodesFrom, LocksFit}
 use Rattle.meaning.specs.Laws.Meaning.{below-meaning, below-none}
-use Rattle.solver.specs.Laws.Engine.{assembled}
+use Rattle.solver.specs.Laws.Engine.{assembled, mask-set}
 use borrow.Fn.Kinds.{In}
 use borrow.Fn.PlainCycle.{Measures, is, falls, and}
-use Rattle.solver.specs.Flat.{programIn}
+use Rattle.solver.specs.Flat.{programIn, tablesIn}
 use Rattle.solver.proofs.node.node_grade.Reads as node-grade
 use Rattle.solver.proofs.node.node_grade.Kinds as node-grade-kinds
 use Rattle.solver.proofs.node.+node_grade.Lts-node_grade as node-grade-lts
@@ -58,6 +59,7 @@ node-grade-combined-requires : (t : ℕ) → node-grade-lts.Need-combined-requir
 node-grade-combined-requires t c κs = search needs
 
 node-grade-returns : (t : ℕ) → node-grade-lts.Need-returns (parts-of-reads.Asked, parts-of-reads.Learnt, node-grade-below t, node-grade.Post, combined-reads.Asked, combined-reads.Learnt) (node-grade-at t) node-grade.Post
+unfolding LocksFit
 node-grade-returns t c =
     let a = c .before .before .before .before .before .before .before .before .before .before .args in
     let parts = c .before .before .before .before .before .before .before .parts-of in
@@ -65,6 +67,8 @@ node-grade-returns t c =
     let g : Assignment = tablesIn (now (a .grades)) in
     let nodes : (ℕ → Node) = nodesFrom (now (a .tables)) (a .first) in
     let of = parts .ensures in
+    let given = c .before .before .before .before .before .before .before .before .before .before .pre .1 in
+    let lock : (nodes (a .n) .op ≡ 6 → firstName (nodes (a .n) .names) < maskNames) = given .0 (a .first + a .n) (omega (arith, given .1 .0)) (given .1 .1) in
     let X : c .before .before .before .before .before .if1 .a ≡ below p g nodes (a .n) (parts .result .x) (parts .result .under)
     = ⊎-elim (λ w. w .2 ∙ w .1 .ensures ∙ sym (below-meaning p g nodes (a .n) (parts .result .x) (parts .result .under) (w .0 .taken)))
     (λ w. w .1 ∙ sym (below-none p g nodes (a .n) (parts .result .x) (parts .result .under) (w .0 .left))) (c .before .before .before .before .before .if1 .came) in
@@ -75,8 +79,8 @@ node-grade-returns t c =
     = ⊎-elim (λ w. w .2 ∙ w .1 .ensures ∙ sym (below-meaning p g nodes (a .n) (parts .result .z) (parts .result .under) (w .0 .taken)))
     (λ w. w .1 ∙ sym (below-none p g nodes (a .n) (parts .result .z) (parts .result .under) (w .0 .left))) (c .before .if3 .came) in
     assembled p g nodes (a .n) (a .set) (parts .result .op) (parts .result .under) (parts .result .x) (parts .result .y) (parts .result .z) (parts .result .own)
-    (c .before .before .before .before .before .if1 .a) (c .before .before .before .if2 .b) (c .before .if3 .c) (c .combined .result) (parts .result .newly) (omega (arith, c .before .before .before .before .before .before .before .before .before .before .pre .1 .1 .3))
-    (of .op) (of .newly) (of .under) (of .x) (of .y) (of .z) (of .own) X Y Z (c .combined .ensures)
+    (c .before .before .before .before .before .if1 .a) (c .before .before .before .if2 .b) (c .before .if3 .c) (c .combined .result) (parts .result .newly) (omega (arith, given .1 .3))
+    (of .op) (of .newly) (of .under ∙ mask-set (nodes (a .n) .op) (nodes (a .n) .names) (a .set) lock) (of .x) (of .y) (of .z) (of .own) X Y Z (c .combined .ensures)
 
 pub +node-grade-spec : {M : Type 1} → statement M
 +node-grade-spec = close μ-node-grade λ t. node-grade-lts.spec (parts-of-reads.Asked, parts-of-reads.Learnt, node-grade-below t, node-grade.Post, combined-reads.Asked, combined-reads.Learnt)

@@ -4,7 +4,7 @@ use mathlib.Core.Path.{refl, _∙_}
 use native.Mathlib.Omega.{arith}
 use lib.ListN.{length-take}
 use denote.Ref.{now}
-use Rattle.solver.specs.Code.Engine.{tablesIn}
+use Rattle.solver.specs.Flat.{tablesIn}
 use Rattle.solver.specs.Laws.Views.{entry-read}
 use borrow.Author.Needs.{needs}
 use Rattle.solver.proofs.node.callee_grade.Statement.{statement}

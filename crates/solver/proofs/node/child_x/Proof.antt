@@ -1,11 +1,10 @@
 -- `solver::node::child_x` meets its contract: a law says when the op lists this child.
 -- Assumes nothing.
-use mathlib.Core.Path.{_≡_, refl, sym, ap, ap₂, _∙_}
+use mathlib.Core.Path.{sym, ap, _∙_}
 use borrow.Author.Tests.{lt-ltb, le-ltb}
 use denote.Ref.{now}
-use Prim.Native.Nat.{ℕ}
 use lib.Dec.{ltb}
-use Rattle.solver.specs.Code.Engine.{nodeIn, noChild}
+use Rattle.solver.specs.Nodes.{nodeIn, noChild}
 use Rattle.solver.specs.Laws.Engine.{child-first, cond-yes, cond-no}
 use borrow.Author.Needs.{needs}
 use Rattle.solver.proofs.node.child_x.Statement.{statement}

@@ -1,9 +1,8 @@
 -- `solver::node::combined` meets its contract: the arms are the rule's clauses, and a law says which ops only compose.
 -- Assumes nothing.
-use mathlib.Core.Path.{_≡_, refl, sym, ap, ap₂, _∙_}
-use native.Mathlib.Omega.{arith}
+use mathlib.Core.Path.{sym, ap, _∙_}
 use Rattle.meaning.specs.Meaning.{opOf}
-use Rattle.solver.specs.Code.Engine.{combined}
+use Rattle.solver.specs.Nodes.{combined}
 use Rattle.grades.specs.Grades.{compose, closure}
 use Rattle.solver.specs.Laws.Engine.{combined-plain, combined-past}
 use Prim.Native.Nat.{ℕ}

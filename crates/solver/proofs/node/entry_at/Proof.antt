@@ -1,12 +1,11 @@
 -- `solver::node::entry_at` meets its contract: past the room of a method, and past the end of the tables, stands 0.
 -- Assumes nothing.
-use mathlib.Core.Path.{_≡_, refl, sym, ap, ap₂, _∙_}
-use native.Mathlib.Omega.{arith}
+use mathlib.Core.Path.{sym}
 use borrow.Author.Tests.{lt-ltb, le-ltb}
-use lib.ListN.{getD, List·getD-eq-default}
+use lib.ListN.{List·getD-eq-default}
 use denote.Ref.{now}
+use Rattle.solver.specs.Flat.{tablesIn}
 use Rattle.frames.specs.Layout.{layout}
-use Rattle.solver.specs.Code.Engine.{tablesIn}
 use borrow.Author.Needs.{needs}
 use Rattle.solver.proofs.node.entry_at.Statement.{statement}
 use Rattle.solver.proofs.node.entry_at.Tie as tie

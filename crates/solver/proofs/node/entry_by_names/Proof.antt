@@ -8,8 +8,9 @@ use lib.ListN.{length, drop}
 use lib.Pow.{pow-pos, pow-mono}
 use native.Mathlib.Nat.{lt-of-lt-of-le}
 use denote.Ref.{now}
+use Rattle.solver.specs.Flat.{tablesIn}
 use Rattle.meaning.specs.Meaning.{matching, largest}
-use Rattle.solver.specs.Code.Engine.{tablesIn, entriesFrom}
+use Rattle.solver.specs.Code.Engine.{entriesFrom}
 use Rattle.solver.specs.Laws.Views.{answered-below, entriesAfter, entries-start, entries-end, entries-named}
 use borrow.Author.Needs.{needs}
 use Rattle.solver.proofs.node.entry_by_names.Statement.{statement}

@@ -1,14 +1,14 @@
 -- `solver::node::field_grade` meets its contract: the field is the program's, and one that it lacks permits nothing.
 -- Assumes nothing.
-use mathlib.Core.Path.{_≡_, refl, sym, ap, ap₂, _∙_}
+use mathlib.Core.Path.{sym, ap, _∙_}
 use native.Mathlib.Omega.{arith}
 use Prim.Native.Nat.{_≤_}
+use Rattle.solver.specs.Nodes.{nodeIn}
 use Rattle.frames.specs.Frames.{fieldsIn}
 use Rattle.frames.specs.Program.{Field}
 use Rattle.frames.specs.Tables.{cell}
 use denote.Ref.{now}
 use Rattle.meaning.specs.Meaning.{fieldAccess}
-use Rattle.solver.specs.Code.Engine.{nodeIn}
 use Rattle.solver.specs.Laws.Views.{field-past, no-field-access, access-read}
 use borrow.Author.Needs.{needs}
 use Rattle.solver.proofs.node.field_grade.Statement.{statement}

@@ -1,14 +1,13 @@
 -- `solver::node::own_grade` meets its contract: the arms are the rule's clauses, and a law says which ops have no part of their own.
 -- Assumes nothing.
-use mathlib.Core.Path.{_≡_, refl, sym, ap, ap₂, _∙_}
-use native.Mathlib.Omega.{arith}
+use mathlib.Core.Path.{sym}
+use Rattle.solver.specs.Nodes.{nodeIn}
 use Rattle.meaning.specs.Meaning.{opOf}
-use Rattle.solver.specs.Code.Engine.{nodeIn, tablesIn}
 use denote.Ref.{now}
 use Rattle.solver.specs.Laws.Engine.{own-none}
 use borrow.Author.Needs.{needs}
 use Rattle.solver.proofs.node.own_grade.Statement.{statement}
-use Rattle.solver.specs.Flat.{programIn}
+use Rattle.solver.specs.Flat.{programIn, tablesIn}
 use Rattle.solver.proofs.node.own_grade.Tie as tie
 
 field-grade-requires : tie.Need-field-grade-requires

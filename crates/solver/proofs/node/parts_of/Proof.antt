@@ -1,20 +1,17 @@
 -- `solver::node::parts_of` meets its contract: each part is what a call gives for it.
 -- Assumes nothing.
-use mathlib.Core.Path.{_≡_, refl, sym, ap, ap₂, _∙_}
-use native.Mathlib.Omega.{arith}
+use mathlib.Core.Path.{_≡_, sym, ap, ap₂, _∙_}
 use denote.Ref.{now}
 use mathlib.Core.Bool.{not}
-use mathlib.Core.List.{[], _∷_}
 use Prim.Native.Nat.{ℕ}
 use Rattle.grades.specs.HeldSets.{held}
 use Rattle.frames.specs.Ranges.{childrenListed}
 use Rattle.meaning.specs.Meaning.{opOf, firstName}
-use Rattle.solver.specs.Code.Engine.{LocksFit, nodeIn, tablesIn, ownGrade}
+use Rattle.solver.specs.Nodes.{nodeIn, ownGrade, maskSet}
 use Rattle.solver.specs.Laws.Views.{first-name}
-use Rattle.solver.specs.Laws.Engine.{set-by-name}
 use borrow.Author.Needs.{needs}
 use Rattle.solver.proofs.node.parts_of.Statement.{statement}
-use Rattle.solver.specs.Flat.{programIn}
+use Rattle.solver.specs.Flat.{programIn, tablesIn}
 use Rattle.solver.proofs.node.parts_of.Tie as tie
 
 op-requires : tie.Need-op-requires
@@ -33,11 +30,7 @@ holds-requires : tie.Need-holds-requires
 holds-requires c κs = search needs
 
 set-under-requires : tie.Need-set-under-requires
-unfolding LocksFit
-set-under-requires c κs = λ six.
-    let a = c .before .before .before .before .before .before .before .args in
-    let lock = c .before .before .before .before .before .before .before .pre .0 (a .j) (c .before .before .before .before .before .before .before .pre .1 .0) (c .before .before .before .before .before .before .before .pre .1 .1) (sym (c .before .before .before .before .op .ensures .is) ∙ six) in
-    omega (arith, c .before .before .byte .ensures, c .before .before .before .name .ensures .is, first-name (now (a .tables)) (a .j))
+set-under-requires c κs = search needs
 
 child-x-requires : tie.Need-child-x-requires
 child-x-requires c κs = c .before .before .children-listed .ensures ∙ ap childrenListed (c .before .before .before .before .before .op .ensures .is)
@@ -59,7 +52,7 @@ returns c = let a = c .before .before .before .before .before .before .before .b
     record {
       op = op;
       newly = ap not (c .before .before .before .before .before .holds .ensures ∙ ap (held (a .set)) name);
-      under = c .before .before .before .before .set-under .ensures ∙ set-by-name (c .before .before .before .before .before .before .before .before .before .op .result) (node .op) (c .before .before .before .before .before .before .before .byte .result) (node .names) (a .set) op name;
+      under = c .before .before .before .before .set-under .ensures ∙ ap₂ (λ (o n : ℕ). maskSet o n (a .set)) op name;
       x = c .before .before .before .child-x .ensures;
       y = c .before .before .child-y .ensures;
       z = c .before .child-z .ensures;

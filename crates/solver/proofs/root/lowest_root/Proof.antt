@@ -10,13 +10,12 @@ use borrow.Author.Tests.{not-true, not-false}
 use Rattle.frames.specs.Frames.{methodsIn}
 use Rattle.frames.specs.Tables.{cell}
 use Rattle.meaning.specs.Meaning.{Assignment, rootTable}
-use Rattle.solver.specs.Code.Engine.{tablesIn}
 use Rattle.solver.specs.Laws.Flat.{count-read, is-entry, no-entry-set, no-entry-method}
 use Rattle.solver.specs.Room.{hasRoom}
 use Rattle.solver.specs.Laws.Root.{root-no-room, root-no-entry, root-entry}
 use Rattle.solver.specs.Laws.Rounds.{lowest-read}
 use Rattle.solver.proofs.root.lowest_root.Statement.{statement}
-use Rattle.solver.specs.Flat.{programIn}
+use Rattle.solver.specs.Flat.{programIn, tablesIn}
 use Rattle.solver.specs.Laws.Room.{room-fits}
 use Rattle.solver.proofs.root.lowest_root.Tie as tie
 

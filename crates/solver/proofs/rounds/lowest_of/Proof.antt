@@ -1,9 +1,8 @@
 -- `solver::rounds::lowest_of` meets its contract. The loop's invariant: the tables are those after n rounds, each of which changed something.
 -- The measure is what is left of the rounds.
 -- Assumes nothing.
-use mathlib.Core.Path.{_≡_, sym, ap, _∙_, subst, subst₂}
+use mathlib.Core.Path.{_≡_, sym, ap, _∙_, subst}
 use mathlib.Core.Bool.{Bool, not}
-use mathlib.Core.List.{List}
 use lib.Dec.{T}
 use native.Mathlib.Numerals.{add-one}
 use native.Mathlib.Omega.{arith}
@@ -15,17 +14,10 @@ use Rattle.frames.specs.Frames.{methodsIn}
 use Rattle.frames.specs.Tables.{cell}
 use Rattle.meaning.specs.Lowest.{rounds}
 use Rattle.solver.specs.Flat.{programIn, flat}
-use Rattle.solver.specs.Laws.Rounds.{afterRounds, Rising, start-first, round-next, still-after, rising-more, stopped, stopped-tables, rising-bound, rounds-few}
+use Rattle.solver.specs.Laws.Rounds.{afterRounds, Rising, start-first, round-next, still-after, rising-more, stopped, stopped-tables, rising-bound, rounds-few, compared}
 use Rattle.solver.proofs.rounds.lowest_of.Statement.{statement}
-use Rattle.solver.specs.Code.Rounds.{Fits, Still, SameTo, roundTables}
+use Rattle.solver.specs.Code.Rounds.{Still, roundTables}
 use Rattle.solver.proofs.rounds.lowest_of.Tie as tie
-
--- what the comparison says, of the rounds
-compared : (t : List ℕ) (fits : Fits t) (used n : ℕ) (old new : List ℕ) (r : Bool) → used ≡ layout .grades * methodsIn (cell t) → old ≡ flat (afterRounds t n)
-    → new ≡ roundTables t old → SameTo used old new r → SameTo (layout .grades * methodsIn (cell t)) (flat (afterRounds t n)) (flat (afterRounds t (suc n))) r
-compared t fits used n old new r u o e s =
-    subst (λ (i : ℕ). SameTo i (flat (afterRounds t n)) (flat (afterRounds t (suc n))) r) u
-    (subst₂ (λ (x y : List ℕ). SameTo used x y r) o (e ∙ ap (roundTables t) o ∙ round-next t fits n) s)
 
 abbrev Inv-loop : tie.InvT-loop
 Inv-loop tables starts used old₀ n₀ old n =

@@ -1,6 +1,6 @@
 -- `solver::rounds::root_grade` meets its contract: the method's last node, among the nodes from its first frame on.
 -- Assumes nothing.
-use mathlib.Core.Path.{_≡_, refl, sym, ap, ap₂, _∙_}
+use mathlib.Core.Path.{_≡_, sym, ap, ap₂, _∙_}
 use native.Mathlib.Omega.{arith}
 use denote.Ref.{now}
 use Prim.Native.Nat.{ℕ, _-_}
@@ -8,12 +8,12 @@ use Rattle.frames.specs.Laws.Tables.{nodes-length}
 use Rattle.frames.specs.Tables.{cell, firstFrame}
 use Rattle.frames.specs.Links.{nodeCount}
 use Rattle.meaning.specs.Meaning.{meaning}
-use Rattle.solver.specs.Code.Engine.{tablesIn, nodesFrom}
+use Rattle.solver.specs.Code.Engine.{nodesFrom}
 use Rattle.solver.specs.Laws.Flat.{root-last, root-none, node-frame, frames-rise}
 use native.Mathlib.Nat.{zero-add}
 use borrow.Author.Needs.{needs}
 use Rattle.solver.proofs.rounds.root_grade.Statement.{statement}
-use Rattle.solver.specs.Flat.{programIn}
+use Rattle.solver.specs.Flat.{programIn, tablesIn}
 use Rattle.solver.proofs.rounds.root_grade.Tie as tie
 
 node-count-requires : tie.Need-node-count-requires
