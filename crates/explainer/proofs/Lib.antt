@@ -1,0 +1,5 @@
+pub mod Clauses
+mod Filling
+pub mod Lending
+pub mod Loops
+mod Records

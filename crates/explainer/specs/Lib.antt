@@ -1,0 +1,6 @@
+-- What an explanation comes to.
+pub mod Explain
+pub mod Broken
+pub mod Code
+pub mod Laws
+pub mod Refused
