@@ -1,23 +1,22 @@
--- `exports::put` meets its contract: eleven stores, one after the other, are the whole record.
+-- `exports::put` meets its contract: eleven stores, one after the other, are the record at the front.
 -- Assumes nothing.
-use mathlib.Core.Path.{_≡_, refl, sym, ap, _∙_}
+use mathlib.Core.Path.{_≡_, ap, _∙_}
 use native.Mathlib.Omega.{arith}
 use Prim.Native.Nat.{ℕ, _+_, _≤_}
-use mathlib.Core.List.{List, [], _∷_, _++_, append-nil}
-use lib.ListN.{length, drop, length-set, length-drop}
-use lib.Seq.{sets, sets-eq, drop-length}
+use mathlib.Core.List.{List, _++_}
+use lib.ListN.{length, drop, length-set}
+use lib.Seq.{sets, sets-eq}
 use Rattle.exports.specs.Record.{recordOf}
 use denote.Ref.{now}
 use borrow.Author.Needs.{needs}
 use Rattle.exports.proofs.put.Statement.{statement}
 use Rattle.exports.proofs.put.Tie as tie
 
--- a list stored over one of its own length
-stored : (vs l : List ℕ) → length l ≡ length vs → sets l 0 vs ≡ vs
-stored vs l e =
-    sets-eq vs l 0 (omega arith)
-    ∙ ap (λ (n : ℕ). vs ++ drop n l) (let all : 0 + length vs ≡ length l = omega arith in all)
-    ∙ ap (λ (r : List ℕ). vs ++ r) (drop-length l) ∙ append-nil vs
+-- a list stored from the front on
+stored : (vs l : List ℕ) → length vs ≤ length l → sets l 0 vs ≡ vs ++ drop (length vs) l
+stored vs l h =
+    let from-0 : 0 + length vs ≡ length vs = omega arith in
+    sets-eq vs l 0 (omega (arith, from-0)) ∙ ap (λ (n : ℕ). vs ++ drop n l) from-0
 
 slice-write-page : tie.Need-slice-write-page
 slice-write-page c = search needs

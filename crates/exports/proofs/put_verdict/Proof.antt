@@ -1,18 +1,29 @@
 -- `exports::put_verdict` meets its contract: each arm puts the numbers of its case.
 -- Assumes nothing.
 use Prim.Native.Nat.{ℕ}
-use mathlib.Core.List.{List}
+use mathlib.Core.List.{List, _++_, append-nil}
 use mathlib.Core.Path.{_≡_, sym, ap, _∙_}
 use Rattle.checker.specs.Grading.{numbersOf}
 use Rattle.checker.specs.declared.Verdict.{Verdict}
-use Rattle.exports.specs.Record.{recordOf}
+use lib.ListN.{length, drop}
+use lib.Seq.{drop-length}
+use Rattle.exports.specs.Record.{recordLength, recordOf}
+use denote.Ref.{now}
 use borrow.Author.Needs.{needs}
 use Rattle.exports.proofs.put_verdict.Statement.{statement}
 use Rattle.exports.proofs.put_verdict.Tie as tie
 
+-- a record that nothing is behind
+alone : (xs old : List ℕ) → length old ≡ recordLength → xs ++ drop recordLength old ≡ xs
+alone xs old e = ap (λ (n : ℕ). xs ++ drop n old) (sym e) ∙ ap (λ (r : List ℕ). xs ++ r) (drop-length old) ∙ append-nil xs
+
 -- what an arm puts, once its case is known to be the verdict's
-met : {verdict case : Verdict} {page : List ℕ} → verdict ≡ case → page ≡ recordOf (numbersOf case) → (numbersOf case .number ≡ numbersOf verdict .number) × (page ≡ recordOf (numbersOf verdict))
-met is put = (ap (λ (v : Verdict). numbersOf v .number) (sym is), put ∙ ap (λ (v : Verdict). recordOf (numbersOf v)) (sym is))
+met : {verdict case : Verdict} {page : List ℕ} (old : List ℕ) → length old ≡ recordLength → verdict ≡ case → page ≡ recordOf (numbersOf case) ++ drop recordLength old
+    → (numbersOf case .number ≡ numbersOf verdict .number) × (page ≡ recordOf (numbersOf verdict))
+met {case = case} old size is put = (
+  ap (λ (v : Verdict). numbersOf v .number) (sym is),
+  put ∙ alone (recordOf (numbersOf case)) old size ∙ ap (λ (v : Verdict). recordOf (numbersOf v)) (sym is),
+)
 
 enum-known-verdict : tie.Need-enum-known-verdict
 enum-known-verdict c = search needs
@@ -66,49 +77,49 @@ same-length : tie.Need-same-length
 same-length c = search needs
 
 returns : tie.Need-returns
-returns c = met (c .before .before .before .before .before .verdict .given .1) (c .before .before .put .ensures)
+returns c = let start = c .before .before .before .before .before .before .before .before in met (now (start .args .page)) (start .pre) (c .before .before .before .before .before .verdict .given .1) (c .before .before .put .ensures)
 
 same-length-2 : tie.Need-same-length-2
 same-length-2 c = search needs
 
 returns-2 : tie.Need-returns-2
-returns-2 c = met (c .before .before .before .before .enum-told .given .1) (c .before .before .put2 .ensures)
+returns-2 c = let start = c .before .before .before .before .before .before .before in met (now (start .args .page)) (start .pre) (c .before .before .before .before .enum-told .given .1) (c .before .before .put2 .ensures)
 
 same-length-3 : tie.Need-same-length-3
 same-length-3 c = search needs
 
 returns-3 : tie.Need-returns-3
-returns-3 c = met (c .before .before .before .before .enum-told2 .given .1) (c .before .before .put3 .ensures)
+returns-3 c = let start = c .before .before .before .before .before .before .before in met (now (start .args .page)) (start .pre) (c .before .before .before .before .enum-told2 .given .1) (c .before .before .put3 .ensures)
 
 same-length-4 : tie.Need-same-length-4
 same-length-4 c = search needs
 
 returns-4 : tie.Need-returns-4
-returns-4 c = met (c .before .before .before .before .before .verdict2 .given .1) (c .before .before .put4 .ensures)
+returns-4 c = let start = c .before .before .before .before .before .before .before .before in met (now (start .args .page)) (start .pre) (c .before .before .before .before .before .verdict2 .given .1) (c .before .before .put4 .ensures)
 
 same-length-5 : tie.Need-same-length-5
 same-length-5 c = search needs
 
 returns-5 : tie.Need-returns-5
-returns-5 c = met (c .before .before .before .before .before .verdict3 .given .1) (c .before .before .put5 .ensures)
+returns-5 c = let start = c .before .before .before .before .before .before .before .before in met (now (start .args .page)) (start .pre) (c .before .before .before .before .before .verdict3 .given .1) (c .before .before .put5 .ensures)
 
 same-length-6 : tie.Need-same-length-6
 same-length-6 c = search needs
 
 returns-6 : tie.Need-returns-6
-returns-6 c = met (c .before .before .before .before .before .verdict4 .given .1) (c .before .before .put6 .ensures)
+returns-6 c = let start = c .before .before .before .before .before .before .before .before in met (now (start .args .page)) (start .pre) (c .before .before .before .before .before .verdict4 .given .1) (c .before .before .put6 .ensures)
 
 same-length-7 : tie.Need-same-length-7
 same-length-7 c = search needs
 
 returns-7 : tie.Need-returns-7
-returns-7 c = met (c .before .before .before .before .before .verdict5 .given .1) (c .before .before .put7 .ensures)
+returns-7 c = let start = c .before .before .before .before .before .before .before .before in met (now (start .args .page)) (start .pre) (c .before .before .before .before .before .verdict5 .given .1) (c .before .before .put7 .ensures)
 
 same-length-8 : tie.Need-same-length-8
 same-length-8 c = search needs
 
 returns-8 : tie.Need-returns-8
-returns-8 c = met (c .before .before .before .before .before .verdict6 .given .1) (c .before .before .put8 .ensures)
+returns-8 c = let start = c .before .before .before .before .before .before .before .before in met (now (start .args .page)) (start .pre) (c .before .before .before .before .before .verdict6 .given .1) (c .before .before .put8 .ensures)
 
 pub put-verdict-spec : {M : Type 1} → statement M
 put-verdict-spec =

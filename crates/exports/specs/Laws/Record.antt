@@ -1,13 +1,15 @@
--- The record's definitions, case by case: a record of another length, and one of eleven bytes.
+-- The records' definitions, case by case: a record of another length, and one of eleven bytes or of thirteen.
 -- Assumes nothing.
 use Prim.Native.Nat.{ℕ}
 use mathlib.Core.Bool.{Bool, cond}
 use mathlib.Core.List.{List}
-use mathlib.Core.Path.{_≡_, ap}
+use mathlib.Core.Path.{_≡_, sym, ap}
 use borrow.Author.Tests.{eq-eqb, ne-eqb}
 use lib.ListN.{length}
 use Rattle.checker.specs.Grading.{numbersOf, verdictOf, answerOf}
-use Rattle.exports.specs.Record.{recordLength, recordOf, returned, answered, recorded}
+use Rattle.explainer.specs.Explain as explain
+use Rattle.explainer.specs.declared.walk.Step.{Step}
+use Rattle.exports.specs.Record.{recordLength, recordOf, returned, answered, recorded, reasonLength, reasonRecordOf, reasonReturned, reasonSteps, reasonRecorded}
 
 pub wrong-returned : (text : List ℕ) (answer page : ℕ) → (page ≡ recordLength → ⊥) → returned text answer page ≡ 255
 unfolding returned
@@ -33,3 +35,31 @@ pub right-recorded : (text : List ℕ) (answer : ℕ) (old : List ℕ) → lengt
     → recorded text answer old ≡ recordOf (numbersOf (verdictOf text answer))
 unfolding recorded
 right-recorded text answer old h = ap (λ (b : Bool). cond b (recordOf (numbersOf (verdictOf text answer))) old) (eq-eqb (length old) recordLength h)
+
+-- ---- an explanation
+
+module _ (text : List ℕ) (m H : ℕ) (steps : List Step) (old : List ℕ) where
+  -- what is returned, and the list and the record as they are left
+  abbrev pub Explained : ℕ → List Step → List ℕ → Type 0
+  Explained k list page =
+      (k ≡ reasonReturned text m H (length steps) (length old))
+      × (list ≡ reasonSteps text m H steps (length old)) × (page ≡ reasonRecorded text m H (length steps) old)
+
+  pub wrong-explained : (length old ≡ reasonLength → ⊥) → Explained 255 steps old
+  unfolding reasonReturned reasonSteps reasonRecorded
+  wrong-explained h =
+      let no = sym (ne-eqb (length old) reasonLength h) in (
+        ap (λ (b : Bool). cond b (explain.numbersOf (explain.reasonOf text m H (length steps)) .number) 255) no,
+        ap (λ (b : Bool). cond b (explain.listOf text m H steps) steps) no,
+        ap (λ (b : Bool). cond b (reasonRecordOf (explain.numbersOf (explain.reasonOf text m H (length steps)))) old) no,
+      )
+
+  pub right-explained : length old ≡ reasonLength
+      → Explained (explain.numbersOf (explain.reasonOf text m H (length steps)) .number) (explain.listOf text m H steps) (reasonRecordOf (explain.numbersOf (explain.reasonOf text m H (length steps))))
+  unfolding reasonReturned reasonSteps reasonRecorded
+  right-explained h =
+      let so = sym (eq-eqb (length old) reasonLength h) in (
+        ap (λ (b : Bool). cond b (explain.numbersOf (explain.reasonOf text m H (length steps)) .number) 255) so,
+        ap (λ (b : Bool). cond b (explain.listOf text m H steps) steps) so,
+        ap (λ (b : Bool). cond b (reasonRecordOf (explain.numbersOf (explain.reasonOf text m H (length steps)))) old) so,
+      )
