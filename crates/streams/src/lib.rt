@@ -33,6 +33,28 @@ pub fn read_all(fd: i32, buffer: &mut [u8]) -> Input
     }
 }
 
+// The same of the file of a name. Where it is not opened, or a read fails, standard error tells why.
+pub fn read_file(name: &[u8], buffer: &mut [u8]) -> Input
+    ensures { λ r. ⌜ Counts (r .count) (now (buffer .exit)) ⌝ }
+{
+    let fd = os::open_read(name);
+    if fd < 0 {
+        os::fail(name);
+        return Input {
+            count: 0,
+            failed: true,
+        };
+    }
+    let input = read_all(fd, buffer);
+    if input.failed {
+        os::fail(name);
+        libc::close(fd);
+        return input;
+    }
+    libc::close(fd);
+    input
+}
+
 // Writes the front of a page to standard output; nothing where the page has fewer bytes. That it arrived no contract can say.
 pub fn print(page: &[u8], count: usize) {
     if count <= page.len() {

@@ -8,19 +8,11 @@ fn grade_text(text: &[u8]) {
 }
 
 fn grade_file(name: &[u8]) {
-    let from = os::open_read(name);
-    if from < 0 {
-        os::fail(name);
-        return;
-    }
     let mut text = io::large_buffer();
-    let input = streams::read_all(from, &mut text);
+    let input = streams::read_file(name, &mut text);
     if input.failed {
-        os::fail(name);
-        libc::close(from);
         return;
     }
-    libc::close(from);
     grade_text(&text[..input.count]);
 }
 
