@@ -1,11 +1,13 @@
 /* Lets a program that cannot link the archive call it: the archive is for x86-64, and on another processor this bridge runs
  * under an emulator, with requests on standard input and replies on standard output.
  *
- * request: 'g' (grade) or 's' (session); three lengths of four bytes, high byte first; text, first buffer, second buffer
+ * request: 'g' (grade), 's' (session) or 'e' (explain); two numbers of eight bytes and three lengths of four, high byte first;
+ *          text, first buffer, second buffer
  * reply:   what the call returns in eight bytes, high byte first; 1 if the bytes around both buffers are as they were, else
  *          0; first buffer, second buffer
  *
- * The buffers are answer and record, or the output and nothing. The bridge ends with its input. */
+ * The buffers are answer and record, or the output and nothing, or the steps and the page. The numbers are the method and the
+ * held set to be explained. The bridge ends with its input. */
 #include "ikhzorvan.h"
 
 /* Of the C library only these are needed, so that no headers of another processor are. */
@@ -13,7 +15,7 @@ extern long read(int file, void *bytes, unsigned long len);
 extern long write(int file, const void *bytes, unsigned long len);
 extern void exit(int status);
 
-enum { GUARD = 64, LONGEST = 1 << 17, GUARD_BYTE = 0xA5 };
+enum { GUARD = 64, LONGEST = 1 << 19, GUARD_BYTE = 0xA5 };
 
 /* A buffer to be lent, with guard bytes before and after. */
 struct room {
@@ -43,8 +45,14 @@ static void give(const uint8_t *bytes, size_t len) {
     }
 }
 
+static uint64_t number(const uint8_t *bytes, int len) {
+    uint64_t number = 0;
+    for (int at = 0; at < len; at++) number = number << 8 | bytes[at];
+    return number;
+}
+
 static size_t length(const uint8_t *bytes) {
-    size_t len = (size_t)bytes[0] << 24 | (size_t)bytes[1] << 16 | (size_t)bytes[2] << 8 | bytes[3];
+    size_t len = (size_t)number(bytes, 4);
     if (len > LONGEST) exit(1);
     return len;
 }
@@ -64,17 +72,22 @@ static int is_intact(const struct room *room) {
     return intact;
 }
 
-static uint64_t call(uint8_t which, size_t text_len) {
-    if (which == 'g') return ikhzorvan_grade(text, text_len, lent(&first), first.len, lent(&second), second.len);
-    return ikhzorvan_session(text, text_len, lent(&first), first.len);
+/* The guard's length keeps the buffer as aligned as its room. */
+static struct ikhzorvan_step *lent_steps(struct room *room) { return (struct ikhzorvan_step *)(void *)lent(room); }
+
+static uint64_t call(const uint8_t *head, size_t text_len) {
+    if (head[0] == 'g') return ikhzorvan_grade(text, text_len, lent(&first), first.len, lent(&second), second.len);
+    if (head[0] == 's') return ikhzorvan_session(text, text_len, lent(&first), first.len);
+    return ikhzorvan_explain(text, text_len, (size_t)number(head + 1, 8), (size_t)number(head + 9, 8), lent_steps(&first),
+                             first.len / sizeof(struct ikhzorvan_step), lent(&second), second.len);
 }
 
 static void serve(const uint8_t *head) {
-    size_t text_len = length(head + 1);
+    size_t text_len = length(head + 17);
     take(text, text_len, 1);
-    take_room(&first, length(head + 5));
-    take_room(&second, length(head + 9));
-    uint64_t returned = call(head[0], text_len);
+    take_room(&first, length(head + 21));
+    take_room(&second, length(head + 25));
+    uint64_t returned = call(head, text_len);
     uint8_t reply[9];
     for (int at = 0; at < 8; at++) reply[at] = (uint8_t)(returned >> (56 - 8 * at));
     reply[8] = (uint8_t)(is_intact(&first) && is_intact(&second));
@@ -84,7 +97,7 @@ static void serve(const uint8_t *head) {
 }
 
 int main(void) {
-    uint8_t head[13];
+    uint8_t head[29];
     for (;;) {
         take(head, 1, 0);
         take(head + 1, sizeof head - 1, 1);

@@ -31,7 +31,7 @@ pub struct Group {
 }
 
 /// The text of "One whole session".
-const SESSION: &str = "\
+pub const SESSION: &str = "\
 010301000A
 020001
 040000020000000000000000000000000000000000
@@ -90,7 +90,7 @@ fn session() -> Vec<Input> {
 }
 
 /// Random programs of full size with this refusal number, the first few from a fixed seed.
-fn full_with(number: u8, count: usize) -> Vec<Program> {
+pub fn full_with(number: u8, count: usize) -> Vec<Program> {
     let rng = &mut Rng::of_seed(64);
     let programs = std::iter::repeat_with(|| undeclared(rng, Shape { careless: 0, ..Shape::full() }));
     let is_wanted = |program: &Program| Expected::of(&program.text()).outcome.verdict.number() == number;

@@ -1,24 +1,35 @@
-//! Measures the graders against each other and ends with a table.
+//! Measures the graders against each other, then explaining against grading, and prints a table of each. Fails if explaining
+//! takes more gradings than it may.
 //!
 //! `bench [WORD]` measures the groups with that word in their title, or all.
 //!
-//! All graders get the same text. Answer, record and output are lent again for each call without being cleared, and every
-//! grader writes all that it has to, the whole answer of an accepted text included.
+//! All graders get the same text. Answer, record, output, steps and page are lent again for each call without being cleared,
+//! and every grader writes all that it has to, the whole answer of an accepted text included.
 
 mod inputs;
 mod measure;
+mod reasons;
 
 use differential::graders::{self, Grader};
 use ikhzorvan::{ANSWER_LEN, LONGEST_SESSION, RECORD_LEN};
 use inputs::{Call, Input};
+use std::process::ExitCode;
 
-fn main() {
+fn main() -> ExitCode {
     let word = std::env::args().nth(1).unwrap_or_default();
+    measure_graders(&word);
+    match reasons::measure(&word) {
+        true => ExitCode::SUCCESS,
+        false => ExitCode::FAILURE,
+    }
+}
+
+fn measure_graders(word: &str) {
     let graders = graders::linked();
     let subject = graders.last().expect("there are graders").name();
     println!("median time of one call, and ratios of {subject} to the others; buffers not cleared between calls");
     print_row("", &headings(&graders));
-    for group in inputs::groups().iter().filter(|group| group.title.contains(&word)) {
+    for group in inputs::groups().iter().filter(|group| group.title.contains(word)) {
         println!("{}", group.title);
         for input in &(group.inputs)() {
             expect_number(input);

@@ -63,7 +63,7 @@ pub struct WrongLengths {
 
 /// Bytes to be lent, with guard bytes before and after.
 #[derive(PartialEq, Eq)]
-struct Room {
+pub(crate) struct Room {
     bytes: Vec<u8>,
     len: usize,
 }
@@ -72,12 +72,12 @@ impl Room {
     const GUARD: usize = 48;
 
     /// Filled with bytes that are no grades, no digits and not all alike.
-    fn new(len: usize) -> Room {
+    pub(crate) fn new(len: usize) -> Room {
         let fill = |at: usize| 0x80 | (at * 37 % 101) as u8;
         Room { bytes: (0..len + 2 * Room::GUARD).map(fill).collect(), len }
     }
 
-    fn lent(&mut self) -> &mut [u8] {
+    pub(crate) fn lent(&mut self) -> &mut [u8] {
         &mut self.bytes[Room::GUARD..Room::GUARD + self.len]
     }
 }
@@ -130,7 +130,7 @@ fn difference_in_session(expected: &Expected, grader: &dyn Grader, text: &[u8], 
 }
 
 /// The first byte at which two rooms differ. Guard bytes have places below 0 or past the end.
-fn differing(what: &str, found: &Room, due: &Room) -> Option<String> {
+pub(crate) fn differing(what: &str, found: &Room, due: &Room) -> Option<String> {
     let at = (0..due.bytes.len()).find(|&at| found.bytes[at] != due.bytes[at])?;
     let place = at as i64 - Room::GUARD as i64;
     Some(format!("byte {place} of the {what} is {:02X}, not {:02X}", found.bytes[at], due.bytes[at]))

@@ -2,8 +2,10 @@
 
 mod bridge;
 pub mod compare;
+pub mod explainers;
 pub mod graders;
 pub mod laws;
 pub mod random;
+pub mod reasons;
 pub mod tally;
 pub mod vectors;

@@ -1,10 +1,12 @@
-//! Runs the vectors, the random texts and the laws, and fails on any difference.
+//! Runs the vectors, the random texts, the laws and the reasons, and fails on any difference.
 //!
 //! `differential [TEXTS [SEED]]`
 
+use differential::explainers::{self, Explainer};
 use differential::graders::{self, Grader};
+use differential::reasons::JUDGED_PROGRAMS;
 use differential::tally::JUDGED_TEXTS;
-use differential::{laws, random, vectors};
+use differential::{laws, random, reasons, vectors};
 use std::process::ExitCode;
 
 const SEED: u64 = 20_071_105;
@@ -17,8 +19,18 @@ fn main() -> ExitCode {
     let graders = graders::all();
     let names: Vec<_> = graders.iter().map(|grader| grader.name()).collect();
     println!("graders: {}", names.join(", "));
+    let explainers = explainers::all();
+    let names: Vec<_> = explainers.iter().map(|explainer| explainer.name()).collect();
+    println!("explainers beside the oracle: {}", if names.is_empty() { "none".into() } else { names.join(", ") });
 
-    let passed = [run_vectors(&graders), run_random(seed, texts, &graders), run_laws(seed, &graders)];
+    let programs = JUDGED_PROGRAMS * texts / JUDGED_TEXTS;
+    let passed = [
+        run_vectors(&graders),
+        run_vectors_of_reasons(&explainers),
+        run_random(seed, texts, &graders),
+        run_laws(seed, &graders),
+        run_reasons(seed, programs, &explainers),
+    ];
     match passed.iter().all(|&passed| passed) {
         true => ExitCode::SUCCESS,
         false => ExitCode::FAILURE,
@@ -34,6 +46,20 @@ fn run_vectors(graders: &[Box<dyn Grader>]) -> bool {
         }
         Err(error) => {
             println!("vectors: {error}");
+            false
+        }
+    }
+}
+
+fn run_vectors_of_reasons(explainers: &[Box<dyn Explainer>]) -> bool {
+    match vectors::run_reasons(explainers) {
+        Ok((texts, questions, differences)) => {
+            println!("vectors of reasons: {texts} texts, {questions} questions, {} differences", differences.len());
+            differences.iter().for_each(|difference| println!("{difference}"));
+            differences.is_empty()
+        }
+        Err(error) => {
+            println!("vectors of reasons: {error}");
             false
         }
     }
@@ -63,6 +89,19 @@ fn run_laws(seed: u64, graders: &[Box<dyn Grader>]) -> bool {
         }
         Err(failure) => {
             println!("laws: {failure}");
+            false
+        }
+    }
+}
+
+fn run_reasons(seed: u64, programs: usize, explainers: &[Box<dyn Explainer>]) -> bool {
+    match reasons::run(seed, programs, explainers) {
+        Ok(tally) => {
+            println!("reasons: of {programs} accepted programs from seed {seed}, no difference; reached:\n{tally}");
+            tally.is_enough()
+        }
+        Err(failure) => {
+            println!("reasons: a difference\n{failure}");
             false
         }
     }

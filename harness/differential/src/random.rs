@@ -64,7 +64,7 @@ fn failure(grader: &dyn Grader, text: &[u8], wrong: WrongLengths, what: String) 
     format!("{what}\nthe text:\n{}the oracle's session:\n{}", text.escape_ascii_lines(), due.escape_ascii_lines())
 }
 
-trait EscapeLines {
+pub(crate) trait EscapeLines {
     fn escape_ascii_lines(&self) -> String;
 }
 
@@ -77,7 +77,7 @@ impl EscapeLines for [u8] {
 }
 
 #[cfg(test)]
-mod tests {
+pub(crate) mod tests {
     use super::*;
     use crate::graders::Oracle;
 
@@ -98,7 +98,7 @@ mod tests {
         }
     }
 
-    fn without_loops(text: &[u8]) -> Vec<u8> {
+    pub(crate) fn without_loops(text: &[u8]) -> Vec<u8> {
         String::from_utf8_lossy(text).replace("\n0305", "\n0303").into_bytes()
     }
 

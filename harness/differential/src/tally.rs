@@ -13,11 +13,51 @@ struct Line {
     reached: usize,
 }
 
-/// The things to be reached, in the order of this table.
-pub struct Tally {
+/// The things to be reached, in the order of their table.
+pub struct Counts {
     lines: Vec<Line>,
     /// Is the run long enough to be held to what is wanted?
     is_judged: bool,
+}
+
+impl Counts {
+    pub fn of(wanted: &[(&'static str, usize)], is_judged: bool) -> Counts {
+        let lines = wanted.iter().map(|&(what, wanted)| Line { what, wanted, reached: 0 });
+        Counts { lines: lines.collect(), is_judged }
+    }
+
+    pub fn count(&mut self, what: &str) {
+        self.count_if(what, true);
+    }
+
+    pub fn count_if(&mut self, what: &str, reached: bool) {
+        let line = self.lines.iter_mut().find(|line| line.what == what).expect("a line of the table");
+        line.reached += usize::from(reached);
+    }
+
+    /// Has each thing been reached often enough? A short run need not have.
+    pub fn is_enough(&self) -> bool {
+        !self.is_judged || self.lines.iter().all(|line| line.reached >= line.wanted)
+    }
+}
+
+impl fmt::Display for Counts {
+    fn fmt(&self, out: &mut fmt::Formatter) -> fmt::Result {
+        for Line { what, wanted, reached } in &self.lines {
+            write!(out, "  {what:<44} {reached:>7}")?;
+            match self.is_judged {
+                true if reached < wanted => writeln!(out, "  (wanted {wanted})  TOO FEW")?,
+                true => writeln!(out, "  (wanted {wanted})")?,
+                false => writeln!(out)?,
+            }
+        }
+        Ok(())
+    }
+}
+
+/// What the random texts have reached.
+pub struct Tally {
+    counts: Counts,
     most_rounds: u16,
     longest: usize,
 }
@@ -63,17 +103,15 @@ const WANTED: [(&str, usize); 32] = [
 impl Tally {
     /// The tally of a run of so many texts.
     pub fn of_texts(count: usize) -> Tally {
-        let lines = WANTED.iter().map(|&(what, wanted)| Line { what, wanted, reached: 0 });
-        Tally { lines: lines.collect(), is_judged: count >= JUDGED_TEXTS, most_rounds: 0, longest: 0 }
+        Tally { counts: Counts::of(&WANTED, count >= JUDGED_TEXTS), most_rounds: 0, longest: 0 }
     }
 
     fn count(&mut self, what: &str) {
-        self.count_if(what, true);
+        self.counts.count(what);
     }
 
     fn count_if(&mut self, what: &str, reached: bool) {
-        let line = self.lines.iter_mut().find(|line| line.what == what).expect("a line of the table");
-        line.reached += usize::from(reached);
+        self.counts.count_if(what, reached);
     }
 
     /// Takes in what the oracle has found of a text.
@@ -115,7 +153,7 @@ impl Tally {
 
     fn take_refusal(&mut self, refusal: Refusal) {
         let what = match refusal {
-            Refusal::WrongLength => return,
+            Refusal::WrongLength | Refusal::NoEntry => return,
             Refusal::Overlong => "refusal 2",
             Refusal::Malformed { .. } => "refusal 3",
             Refusal::Misplaced { .. } => "refusal 4",
@@ -159,7 +197,7 @@ impl Tally {
 
     /// Has each thing been reached often enough? A short run need not have.
     pub fn is_enough(&self) -> bool {
-        !self.is_judged || self.lines.iter().all(|line| line.reached >= line.wanted)
+        self.counts.is_enough()
     }
 }
 
@@ -170,14 +208,7 @@ fn has_alias(locks: &[u8]) -> bool {
 
 impl fmt::Display for Tally {
     fn fmt(&self, out: &mut fmt::Formatter) -> fmt::Result {
-        for Line { what, wanted, reached } in &self.lines {
-            write!(out, "  {what:<44} {reached:>7}")?;
-            match self.is_judged {
-                true if reached < wanted => writeln!(out, "  (wanted {wanted})  TOO FEW")?,
-                true => writeln!(out, "  (wanted {wanted})")?,
-                false => writeln!(out)?,
-            }
-        }
+        self.counts.fmt(out)?;
         writeln!(out, "  {:<44} {:>7}", "most rounds", self.most_rounds)?;
         write!(out, "  {:<44} {:>7}", "longest text", self.longest)
     }

@@ -1,7 +1,9 @@
 //! One vocabulary: the refusals have the same names and numbers in Rattle, C, Rust and README, and the header's lengths are the
 //! wrapper's.
 
-use ikhzorvan::{Verdict, ANSWER_LEN, LONGEST_SESSION, LONGEST_TEXT, RECORD_LEN, STACK};
+use ikhzorvan::{
+    rule, Refusal, Verdict, ANSWER_LEN, LONGEST_SESSION, LONGEST_TEXT, MOST_STEPS, PAGE_LEN, RECORD_LEN, STACK,
+};
 
 const CHECKER: &str = include_str!("../../../crates/checker/src/lib.rt");
 const HEADER: &str = include_str!("../../../include/ikhzorvan.h");
@@ -46,6 +48,26 @@ fn c_has_the_names_of_rust() {
         assert_eq!(camel_case(found), *name);
     }
     assert!(HEADER.contains("IKHZORVAN_BAD_RECORD = 255 "));
+    assert!(HEADER.contains(&format!("IKHZORVAN_NO_ENTRY = {},", Refusal::NoEntry.number())));
+    assert!(HEADER.contains("IKHZORVAN_TOO_SHORT = 11,"));
+}
+
+#[test]
+fn c_has_the_rules_of_rust() {
+    for (name, number) in [
+        ("PLAIN", rule::PLAIN),
+        ("CHILD", rule::CHILD),
+        ("CALLEE", rule::CALLEE),
+        ("ACCESS", rule::ACCESS),
+        ("FORK", rule::FORK),
+        ("LOCK", rule::LOCK),
+        ("ASSERT", rule::ASSERT),
+        ("DECLARED", rule::DECLARED),
+        ("TWO_ATOMIC", rule::TWO_ATOMIC),
+    ] {
+        let found = HEADER.split_once(&format!("IKHZORVAN_RULE_{name} = {number}"));
+        assert!(found.is_some_and(|(_, rest)| rest.starts_with([',', ' '])), "{name}");
+    }
 }
 
 #[test]
@@ -54,11 +76,14 @@ fn c_has_the_lengths_of_rust() {
         ("ANSWER_LEN", ANSWER_LEN),
         ("LONGEST_TEXT", LONGEST_TEXT),
         ("LONGEST_SESSION", LONGEST_SESSION),
+        ("MOST_STEPS", MOST_STEPS),
         ("STACK", STACK),
     ] {
         assert!(HEADER.contains(&format!("\n#define IKHZORVAN_{name} {value}\n")), "{name}");
     }
-    assert!(HEADER.contains(&format!("IKHZORVAN_RECORD_LEN = {RECORD_LEN}\n")));
+    assert!(HEADER.contains(&format!("IKHZORVAN_RECORD_LEN = {RECORD_LEN},\n")));
+    assert!(HEADER.contains(&format!("IKHZORVAN_AT_STEPS = {RECORD_LEN},")));
+    assert!(HEADER.contains(&format!("IKHZORVAN_PAGE_LEN = {PAGE_LEN}\n")));
 }
 
 #[test]

@@ -1,4 +1,6 @@
-//! The two functions of the archive as they are. `ikhzorvan.h` says the same for C.
+//! The functions of the archive as they are. `ikhzorvan.h` says the same for C.
+
+use crate::Step;
 
 extern "C" {
     /// Grades a text. Returns the refusal number, 0 to 7, and writes the record; the answer is written only if it is 0.
@@ -27,4 +29,24 @@ extern "C" {
     /// # Safety
     /// As for [`ikhzorvan_grade`], with `text` for reads and `out` for reads and writes.
     pub fn ikhzorvan_session(text: *const u8, text_len: usize, out: *mut u8, out_len: usize) -> usize;
+
+    /// Writes the reason for the grade of a method under a held set into a list of steps. Returns 0 and writes the steps; or
+    /// returns the refusal number, 2 to 7 as [`ikhzorvan_grade`] does, 10 if there is no such method or it has no such held
+    /// set, or else 11 if the list is too short. A refusal leaves the list untouched, and so are steps past the written ones.
+    ///
+    /// `page` must be 13 bytes ([`crate::Page`]); at any other length 255 is returned and nothing at all is written.
+    ///
+    /// # Safety
+    /// As for [`ikhzorvan_grade`], with `text` for reads, `steps` and `page` for reads and writes. `steps` must be good for
+    /// `steps_len` steps, and aligned for them.
+    pub fn ikhzorvan_explain(
+        text: *const u8,
+        text_len: usize,
+        method: usize,
+        set: usize,
+        steps: *mut Step,
+        steps_len: usize,
+        page: *mut u8,
+        page_len: usize,
+    ) -> u8;
 }

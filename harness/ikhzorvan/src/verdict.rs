@@ -38,8 +38,8 @@ pub struct Accepted {
     pub rounds: u16,
 }
 
-/// Why a text is refused. Lines count from 1. The names are those that Rattle's `checker::Verdict`, the header for C and
-/// README have.
+/// Why a text is refused, or a question about it. Lines count from 1. The names are those that Rattle's `checker::Verdict` and
+/// `explainer::Reason`, the header for C and README have.
 ///
 /// ```
 /// use ikhzorvan::{Broken, Kind, Refusal};
@@ -67,6 +67,8 @@ pub enum Refusal {
     Unlinked { line: u16 },
     /// 7: the text can be read, and this is its first constraint that its lowest grades break.
     Broken(Broken),
+    /// 10, of explaining alone: the text has no such method, or the method no such held set.
+    NoEntry,
 }
 
 impl fmt::Display for Refusal {
@@ -90,6 +92,7 @@ impl fmt::Display for Refusal {
                 "line {line} names a child, field, method or lock that it cannot, or the node counts don't total the header's"
             ),
             Refusal::Broken(broken) => broken.fmt(out),
+            Refusal::NoEntry => write!(out, "there is no such method, or it has no such held set"),
         }
     }
 }
@@ -152,6 +155,7 @@ impl Refusal {
             Refusal::OutOfRange { .. } => 5,
             Refusal::Unlinked { .. } => 6,
             Refusal::Broken(_) => 7,
+            Refusal::NoEntry => 10,
         }
     }
 
@@ -162,7 +166,7 @@ impl Refusal {
             | Refusal::Misplaced { line }
             | Refusal::OutOfRange { line }
             | Refusal::Unlinked { line } => line,
-            Refusal::WrongLength | Refusal::Overlong | Refusal::Broken(_) => 0,
+            Refusal::WrongLength | Refusal::Overlong | Refusal::Broken(_) | Refusal::NoEntry => 0,
         }
     }
 }
@@ -198,7 +202,7 @@ impl Verdict {
         record
     }
 
-    /// The verdict that a record stands for, if it is the record of one.
+    /// The verdict of a grading that a record stands for, if it is the record of one.
     pub fn from_record(record: &Record) -> Option<Verdict> {
         let two = |at: usize| u16::from_be_bytes([record[at], record[at + 1]]);
         let line = two(1);

@@ -1,6 +1,9 @@
 //! The wrapper over the linked checker.
 
-use ikhzorvan::{grade, grade_into, raw, session, Accepted, Refusal, Verdict, ANSWER_LEN, LONGEST_SESSION, RECORD_LEN};
+use ikhzorvan::{
+    explain, grade, grade_into, raw, rule, session, Accepted, Broken, Kind, Refusal, Step, Verdict, ANSWER_LEN,
+    LONGEST_SESSION, PAGE_LEN, RECORD_LEN,
+};
 use std::ptr;
 
 /// The text of "One whole session".
@@ -47,6 +50,60 @@ fn an_answer_of_wrong_length() {
     }
 }
 
+/// A step of the session's text under no lock.
+fn step(method: u8, node: u16, round: u16, grade: u8, rule: u8) -> Step {
+    Step { method, node, set: 0, round, grade, rule }
+}
+
+#[test]
+fn a_reason() {
+    let steps = [
+        step(0, 1, 3, 3, rule::CALLEE),
+        step(2, 4, 2, 3, rule::CHILD + rule::TWO_ATOMIC),
+        step(2, 3, 2, 2, rule::CALLEE),
+        step(1, 2, 1, 2, rule::LOCK),
+    ];
+    assert_eq!(explain(SESSION, 0, 0).as_deref(), Ok(&steps[..]));
+}
+
+/// The main of so many nodes, each of which reads a final field above the node before it.
+fn deep(nodes: usize) -> Vec<u8> {
+    let mut text = format!("010101{nodes:04X}\n020000\n0400{nodes:04X}{:034}\n03{:024}\n", 0, 0);
+    (1..nodes).for_each(|node| text += &format!("0301{:04X}{:018}\n", node - 1, 0));
+    text.into_bytes()
+}
+
+#[test]
+fn reasons_of_any_length() {
+    for nodes in [1, 2, 63, 64, 65, 200, 1024] {
+        let due =
+            (0..nodes as u16).rev().map(|node| step(0, node, 1, 0, if node == 0 { rule::PLAIN } else { rule::CHILD }));
+        assert_eq!(explain(&deep(nodes), 0, 0), Ok(due.collect()), "{nodes} nodes");
+    }
+}
+
+#[test]
+fn questions_that_are_refused() {
+    for (method, set) in [(3, 0), (0, 1), (1, 2), (64, 0), (256, 0), (usize::MAX, 0), (0, 256), (2, usize::MAX)] {
+        assert_eq!(explain(SESSION, method, set), Err(Refusal::NoEntry), "{method}, {set}");
+    }
+    // A text's own refusal comes before that of the question.
+    for method in [0, 200] {
+        assert_eq!(explain(&[b'0'; 32_769], method, 0), Err(Refusal::Overlong));
+        assert_eq!(explain(b"x\n", method, 0), Err(Refusal::Malformed { line: 1 }));
+        assert_eq!(explain(b"", method, 0), Err(Refusal::Misplaced { line: 1 }));
+        assert_eq!(explain(b"0100000001\n", method, 0), Err(Refusal::OutOfRange { line: 1 }));
+        assert_eq!(explain(&changed("010301000A", "010301000B"), method, 0), Err(Refusal::Unlinked { line: 5 }));
+        let broken = Broken { method: 2, kind: Kind::Declared, held: 0 };
+        assert_eq!(explain(&changed("04010005000000", "04010005010202"), method, 0), Err(Refusal::Broken(broken)));
+    }
+}
+
+/// The session's text with one place changed.
+fn changed(from: &str, to: &str) -> Vec<u8> {
+    String::from_utf8(SESSION.to_vec()).expect("digits").replacen(from, to, 1).into_bytes()
+}
+
 #[test]
 fn null_before_a_length_of_0() {
     let (mut answer, mut record, mut out) = ([9; ANSWER_LEN], [9; RECORD_LEN], [9; LONGEST_SESSION]);
@@ -59,6 +116,13 @@ fn null_before_a_length_of_0() {
         assert_eq!(raw::ikhzorvan_grade(none, 0, none_mut, 0, none_mut, 0), 255);
         assert_eq!(raw::ikhzorvan_session(none, 0, none_mut, 0), 19);
         assert_eq!(raw::ikhzorvan_session(none, 0, out.as_mut_ptr(), LONGEST_SESSION), 19);
+        let (mut page, no_steps) = ([9; PAGE_LEN], ptr::null_mut());
+        assert_eq!(raw::ikhzorvan_explain(none, 0, 0, 0, no_steps, 0, page.as_mut_ptr(), PAGE_LEN), 4);
+        assert_eq!(page, [4, 0, 1, 0, 0, 0, 0, 0, 0, 0, 0, 0, 0]);
+        let (text, len) = (SESSION.as_ptr(), SESSION.len());
+        assert_eq!(raw::ikhzorvan_explain(text, len, 0, 0, no_steps, 0, page.as_mut_ptr(), PAGE_LEN), 11);
+        assert_eq!(page, [11, 0, 0, 0, 0, 0, 0, 0, 0, 0, 0, 0, 4]);
+        assert_eq!(raw::ikhzorvan_explain(text, len, 0, 0, no_steps, 0, none_mut, 0), 255);
     }
     assert_eq!(&out[..20], b"1F0400010000000000\n\x09");
     assert_eq!(answer, [9; ANSWER_LEN]);
@@ -66,10 +130,8 @@ fn null_before_a_length_of_0() {
 
 #[test]
 fn calls_on_several_threads_at_once() {
-    let text_of = |declared: bool| {
-        let text = String::from_utf8(SESSION.to_vec()).expect("digits");
-        if declared { text.replacen("04010005000000", "04010005010202", 1) } else { text }.into_bytes()
-    };
+    let text_of =
+        |declared: bool| if declared { changed("04010005000000", "04010005010202") } else { SESSION.to_vec() };
     std::thread::scope(|threads| {
         for number in 0..8 {
             let text = text_of(number % 2 == 1);

@@ -1,7 +1,7 @@
 //! Reading a text: frames, and refusals 3 to 6 in their order.
 
 use crate::grade::Grade;
-use crate::program::{Access, Call, Field, Fork, Guard, Lock, Method, Node, Program, Reading, Table};
+use crate::program::{Access, Call, Field, Fork, Guard, Lock, Method, Node, Op, Program, Reading, Table};
 use ikhzorvan::Refusal;
 
 /// What can be wrong with a line. In each line they are looked for in this order.
@@ -231,23 +231,23 @@ impl Body<'_> {
     /// The node of a frame, unless it names what it may not: refusal 6.
     fn node(&mut self, frame: &NodeFrame) -> Option<Node> {
         let [x, y, z] = frame.children;
-        let node = match frame.op {
-            0 => Node::Plain,
-            1 => Node::Read(self.child(x)?, self.access(frame)?),
-            2 => Node::Write(self.child(x)?, self.child(y)?, self.access(frame)?),
-            3 => Node::Sequence(self.child(x)?, self.child(y)?),
-            4 => Node::Choice(self.child(x)?, self.child(y)?, self.child(z)?),
-            5 => Node::Loop { test: self.child(x)?, body: self.child(y)? },
-            6 => Node::Synchronised(self.lock(frame.locks[0])??, self.child(x)?),
-            7 => Node::Assert(self.child(x)?),
-            8 => Node::Call(self.child(x)?, self.call(frame)?),
+        let op = match frame.op {
+            0 => Op::Plain,
+            1 => Op::Read(self.child(x)?, self.access(frame)?),
+            2 => Op::Write(self.child(x)?, self.child(y)?, self.access(frame)?),
+            3 => Op::Sequence(self.child(x)?, self.child(y)?),
+            4 => Op::Choice(self.child(x)?, self.child(y)?, self.child(z)?),
+            5 => Op::Loop { test: self.child(x)?, body: self.child(y)? },
+            6 => Op::Synchronised(self.lock(frame.locks[0])??, self.child(x)?),
+            7 => Op::Assert(self.child(x)?),
+            8 => Op::Call(self.child(x)?, self.call(frame)?),
             _ => {
                 let fork = self.fork(frame)?;
                 self.forks.push(fork);
-                Node::Fork(self.child(x)?)
+                Op::Fork(self.child(x)?)
             }
         };
-        Some(node)
+        Some(Node { number: self.trees.len(), op })
     }
 
     /// A child is below its node and "is named as a child at most once": naming it takes its tree away.

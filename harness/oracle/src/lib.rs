@@ -1,5 +1,5 @@
-//! The paper's rules in plain Rust, with what document 02 has changed in them (W-204), written to be held against both line
-//! by line, not to be fast.
+//! The paper's rules in plain Rust, with what document 02 has changed in them (W-204) and the reasons that it asks for
+//! (W-207), written to be held against both line by line, not to be fast.
 //!
 //! It shares no form with the checker that it judges: programs are trees, grades an enum, the lowest tables are found by a
 //! worklist, and the rounds are counted apart from that.
@@ -9,11 +9,13 @@ mod frames;
 mod grade;
 mod lowest;
 mod program;
+mod reasons;
 
 pub use grade::Grade;
 pub use program::{Reading, Table};
+pub use reasons::Reasons;
 
-use ikhzorvan::{Accepted, Refusal, Verdict, ANSWER_LEN};
+use ikhzorvan::{Accepted, Refusal, Step, Verdict, ANSWER_LEN};
 use program::Program;
 
 /// All that is to be known of a text that can be read.
@@ -115,4 +117,33 @@ pub fn session(text: &[u8]) -> Vec<u8> {
         },
     };
     lines.into_bytes()
+}
+
+/// The reasons for the grades of an accepted text, or refusal 2 to 7.
+pub fn reasons(text: &[u8]) -> Result<Reasons, Refusal> {
+    let program = frames::read(Reading::W204, text)?;
+    match constraints::first_broken(&program, &lowest::tables(&program)) {
+        Some(broken) => Err(Refusal::Broken(broken)),
+        None => Ok(Reasons::of(program)),
+    }
+}
+
+/// The reason for the grade of a method under a held set. "Refusals: after 2 to 7, 10 if the method or held set doesn't
+/// exist."
+pub fn explain(text: &[u8], method: usize, set: usize) -> Result<Vec<Step>, Refusal> {
+    reasons(text)?.reason(method, set).ok_or(Refusal::NoEntry)
+}
+
+/// A reason in lines: a frame 13 for each step, or the frame of the refusal.
+pub fn reason_lines(reason: &Result<Vec<Step>, Refusal>) -> String {
+    match reason {
+        Ok(steps) => steps.iter().map(step_line).collect(),
+        Err(refusal) => refusal_line(*refusal),
+    }
+}
+
+/// "Frame 13: method, node (two bytes), held set, round (two bytes), grade, rule".
+fn step_line(step: &Step) -> String {
+    let Step { method, node, set, round, grade, rule } = step;
+    format!("13{method:02X}{node:04X}{set:02X}{round:04X}{grade:02X}{rule:02X}\n")
 }

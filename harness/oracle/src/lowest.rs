@@ -54,16 +54,20 @@ fn round(program: &Program, before: &[Table]) -> Vec<Table> {
     program.methods.iter().zip(before).map(after).collect()
 }
 
+/// The tables before the first round, and then those after each round that changes something.
+pub fn history(program: &Program) -> Vec<Vec<Table>> {
+    let mut history = Vec::new();
+    let mut next = Some(start(program));
+    while let Some(tables) = next {
+        next = Some(round(program, &tables)).filter(|after| *after != tables);
+        history.push(tables);
+    }
+    history
+}
+
 /// "Rounds is the least n such that round n+1 changes nothing", and the tables then reached.
 pub fn rounds(program: &Program) -> (u16, Vec<Table>) {
-    let mut tables = start(program);
-    let mut rounds = 0;
-    loop {
-        let after = round(program, &tables);
-        if after == tables {
-            return (rounds, tables);
-        }
-        tables = after;
-        rounds += 1;
-    }
+    let mut history = history(program);
+    let reached = history.pop().expect("the tables before the first round");
+    (history.len() as u16, reached)
 }

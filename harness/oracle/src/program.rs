@@ -43,8 +43,15 @@ pub enum Reading {
     Of01,
 }
 
+/// A node of a method's tree: its number, counted from 0 within the method, and what it does.
 #[derive(Debug)]
-pub enum Node {
+pub struct Node {
+    pub number: usize,
+    pub op: Op,
+}
+
+#[derive(Debug)]
+pub enum Op {
     Plain,
     Read(Box<Node>, Access),
     Write(Box<Node>, Box<Node>, Access),
@@ -110,7 +117,7 @@ impl Access {
         self.lock.is_some_and(|name| held.has(name))
     }
 
-    fn read(self, held: Held) -> Grade {
+    pub fn read(self, held: Held) -> Grade {
         match (self.field.guard, self.is_locked(held)) {
             (Guard::Final, _) => Grade::Const,
             (Guard::Guarded | Guard::WriteGuarded, true) => Grade::Mover,
@@ -119,7 +126,7 @@ impl Access {
         }
     }
 
-    fn write(self, held: Held) -> Grade {
+    pub fn write(self, held: Held) -> Grade {
         match (self.field.guard, self.is_locked(held)) {
             (Guard::Final, _) => Grade::Error,
             (Guard::Guarded, true) => Grade::Mover,
@@ -163,27 +170,27 @@ impl Call {
 impl Node {
     /// The node's grade under a held set, where `callee(m, h)` is method m's grade under h.
     pub fn grade(&self, held: Held, callee: &mut impl FnMut(usize, Held) -> Grade) -> Grade {
-        match self {
-            Node::Plain => Grade::Const,
-            Node::Read(x, access) => x.grade(held, callee).then(access.read(held)),
-            Node::Write(x, y, access) => {
+        match &self.op {
+            Op::Plain => Grade::Const,
+            Op::Read(x, access) => x.grade(held, callee).then(access.read(held)),
+            Op::Write(x, y, access) => {
                 let before = x.grade(held, callee).then(y.grade(held, callee));
                 before.then(access.write(held))
             }
-            Node::Sequence(x, y) => x.grade(held, callee).then(y.grade(held, callee)),
-            Node::Choice(x, y, z) => {
+            Op::Sequence(x, y) => x.grade(held, callee).then(y.grade(held, callee)),
+            Op::Choice(x, y, z) => {
                 let either = y.grade(held, callee).join(z.grade(held, callee));
                 x.grade(held, callee).then(either)
             }
-            Node::Loop { test, body } => {
+            Op::Loop { test, body } => {
                 let test = test.grade(held, callee);
                 test.then(body.grade(held, callee).then(test).repeated())
             }
-            Node::Synchronised(lock, x) if held.has(*lock) => x.grade(held, callee),
-            Node::Synchronised(lock, x) => x.grade(held.with(*lock), callee).locked(),
-            Node::Assert(x) => x.grade(held, callee).asserted(),
-            Node::Call(x, call) => x.grade(held, callee).then(call.grade(held, callee)),
-            Node::Fork(x) => x.grade(held, callee).then(Grade::Atomic),
+            Op::Synchronised(lock, x) if held.has(*lock) => x.grade(held, callee),
+            Op::Synchronised(lock, x) => x.grade(held.with(*lock), callee).locked(),
+            Op::Assert(x) => x.grade(held, callee).asserted(),
+            Op::Call(x, call) => x.grade(held, callee).then(call.grade(held, callee)),
+            Op::Fork(x) => x.grade(held, callee).then(Grade::Atomic),
         }
     }
 }

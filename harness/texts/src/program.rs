@@ -82,6 +82,11 @@ impl Method {
         Method { k, declared: None, nodes: Vec::new() }
     }
 
+    /// A method that does nothing.
+    pub fn idle(k: u8) -> Method {
+        Method { nodes: vec![Node::default()], ..Method::new(k) }
+    }
+
     /// Adds a node and tells its number.
     pub fn push(&mut self, node: Node) -> u16 {
         self.nodes.push(node);

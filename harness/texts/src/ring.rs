@@ -10,13 +10,6 @@ const SAME: [u8; 4] = [0, 1, 2, 3];
 /// The one field of a ring: narrow and write-guarded, so that a read of it is 1 with its lock held and 2 without.
 const FIELD: Field = Field { wide: 0, guard: 2 };
 
-/// A main that does nothing, so that the ring is accepted whatever its grades are.
-fn main_method() -> Method {
-    let mut main = Method::new(0);
-    main.push(Node::default());
-    main
-}
-
 /// A method that only calls another.
 fn caller(callee: usize, locks: [u8; 4]) -> Method {
     let mut method = Method::new(4);
@@ -31,7 +24,8 @@ fn caller(callee: usize, locks: [u8; 4]) -> Method {
 /// lock names turned by one, so that it rises anew at other held sets; once there are none left, an assert makes error of
 /// cmpd, and the next grade goes round.
 pub fn longest(methods: usize) -> Program {
-    let mut ring = vec![main_method(), turning(), caller(3, SAME)];
+    // The main does nothing, so that the ring is accepted whatever its grades are.
+    let mut ring = vec![Method::idle(0), turning(), caller(3, SAME)];
     ring.extend((3..=methods).map(|number| caller(number % methods + 1, SAME)));
     Program { fields: vec![FIELD], methods: ring }
 }
@@ -67,7 +61,7 @@ pub fn random(rng: &mut Rng) -> Program {
     if methods > 2 && rng.percent(10) {
         return longest(methods);
     }
-    let mut ring = vec![main_method()];
+    let mut ring = vec![Method::idle(0)];
     for number in 1..=methods {
         let mut method = caller(number % methods + 1, locks(rng));
         if number == 1 || rng.percent(15) {

@@ -23,8 +23,8 @@ pub fn program(rng: &mut Rng, slope: Slope) -> Program {
     let a_supplier = rng.between(1, others);
     let signatures: Vec<Signature> = (0..=others).map(|number| signature(rng, number, a_supplier)).collect();
     let methods = signatures.iter().enumerate().map(|(number, own)| match own.is_supplier {
-        true => Method { declared: Some(table(rng, own.k, slope)), ..idle(own.k) },
-        false if number == 0 && rng.percent(60) => idle(0),
+        true => Method { declared: Some(table(rng, own.k, slope)), ..Method::idle(own.k) },
+        false if number == 0 && rng.percent(60) => Method::idle(0),
         false => caller(rng, &signatures, own.k),
     });
     let mut program = Program { fields: vec![FIELD], methods: methods.collect() };
@@ -52,13 +52,6 @@ fn signature(rng: &mut Rng, number: usize, a_supplier: usize) -> Signature {
         }
         _ => Signature { k: rng.pick(&[0, 1, 1, 2, 3, 4]), is_supplier: false },
     }
-}
-
-/// A method that does nothing.
-fn idle(k: u8) -> Method {
-    let mut method = Method::new(k);
-    method.push(Node::default());
-    method
 }
 
 /// A low table, but worse where one of some names is held, or all of them, or just they. The first two, read from the other
