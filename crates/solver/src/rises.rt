@@ -10,7 +10,7 @@ use frames::layout::ANSWER_LENGTH;
 use frames::layout::GRADES;
 use frames::layout::MOST_GRADE;
 ghost use mathlib.Core.Path.{_≡_};
-ghost use Prim.Native.Nat.{_*_, _≤_};
+ghost use Prim.Native.Nat.{_*_, _<_, _≤_};
 ghost use lib.ListN.{length};
 ghost use Rattle.frames.specs.Layout.{layout, answerLength};
 ghost use Rattle.frames.specs.Frames.{methodsIn};
@@ -19,7 +19,7 @@ ghost use Rattle.meaning.specs.Lowest.{rounds, lowest};
 ghost use Rattle.solver.specs.Flat.{programIn, flat};
 ghost use Rattle.solver.specs.Rises.{risesLength, rises, risenIn};
 ghost use Rattle.solver.specs.Code.Rounds.{Fits, Starts};
-ghost use Rattle.solver.specs.Code.Rises.{noted, Noted};
+ghost use Rattle.solver.specs.Code.Rises.{noted, NotedAt, Noted};
 
 // One number for each entry and each grade over const.
 pub const RISES: usize = MOST_GRADE * ANSWER_LENGTH;
@@ -53,16 +53,30 @@ fn noted(before: u16, old: u8, new: u8, below: usize, n: u16) -> u16
     before
 }
 
-// Notes a round at each grade that an entry has risen to in it.
+// Notes a round at each grade that entry e has risen to in it.
+fn note_entry(rises: &mut [u16], e: usize, old: u8, new: u8, n: u16)
+    requires { ⌜ (length (now rises) ≡ risesLength) × (e < answerLength) ⌝ }
+    ensures { λ _. ⌜ NotedAt e (layout .mostGrade) old new n (now (rises .entry)) (now (rises .exit)) ⌝ }
+{
+    if old == new {
+        return;
+    }
+    let mut g = 0;
+    while g < MOST_GRADE {
+        rises[MOST_GRADE * e + g] = noted(rises[MOST_GRADE * e + g], old, new, g, n);
+        g = g + 1;
+    }
+}
+
+// The same, at each of the first `used` entries.
 fn note(rises: &mut [u16], old: &[u8], new: &[u8], used: usize, n: u16)
     requires { ⌜ (length (now rises) ≡ risesLength) × (length (now old) ≡ answerLength) × (length (now new) ≡ answerLength) × (used ≤ answerLength) ⌝ }
     ensures { λ _. ⌜ Noted (layout .mostGrade * used) (now (old .entry)) (now (new .entry)) n (now (rises .entry)) (now (rises .exit)) ⌝ }
 {
-    let mut i = 0;
-    while i < MOST_GRADE * used {
-        let entry = i / MOST_GRADE;
-        rises[i] = noted(rises[i], old[entry], new[entry], i % MOST_GRADE, n);
-        i = i + 1;
+    let mut e = 0;
+    while e < used {
+        note_entry(rises, e, old[e], new[e], n);
+        e = e + 1;
     }
 }
 

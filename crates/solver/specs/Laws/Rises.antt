@@ -69,14 +69,14 @@ rise-start f g = go (decLt g (f 0))
     go (yes a) = rw (le-leb (suc g) (f 0) (omega arith)) (rw (le-leb 0 g (omega arith)) (unfold first in refl))
     go (no a) = rw (lt-leb (suc g) (f 0) (omega arith)) (rw (le-leb 0 g (omega arith)) refl)
 
--- an entry that was 0 and stays 0 has not risen
-still-noted : (before old new g n : ℕ) → old ≡ 0 → new ≡ 0 → before ≡ noted before old new g n
+-- an entry that stays as it was has not risen
+pub same-noted : (before old new g n : ℕ) → old ≡ new → before ≡ noted before old new g n
 unfolding noted
-still-noted before old new g n e f = rw f (rw (le-ltb g 0 (omega arith)) (no-matter (leb old g)))
+same-noted before old new g n e = rw (sym e) (go (decLt g old))
   where
-    no-matter : (b : Bool) → before ≡ cond (b && false) n before
-    no-matter true = refl
-    no-matter false = refl
+    go : Dec (g < old) → before ≡ cond (leb old g && ltb g old) n before
+    go (yes l) = rw (lt-leb old g l) refl
+    go (no l) = rw (le-leb old g (omega arith)) (rw (le-ltb g old (omega arith)) refl)
 
 -- ---- all entries
 
@@ -91,8 +91,8 @@ noted-everywhere b old new n from to s o e i = go (decLt i (layout .mostGrade * 
     go (yes l) = s .done i l
     go (no l) =
         s .rest i (omega arith)
-        ∙ still-noted (getD from i 0) (getD old (i / layout .mostGrade) 0) (getD new (i / layout .mostGrade) 0) (i % layout .mostGrade) n
-        (o (i / layout .mostGrade) (omega arith)) (e (i / layout .mostGrade) (omega arith))
+        ∙ same-noted (getD from i 0) (getD old (i / layout .mostGrade) 0) (getD new (i / layout .mostGrade) 0) (i % layout .mostGrade) n
+        (o (i / layout .mostGrade) (omega arith) ∙ sym (e (i / layout .mostGrade) (omega arith)))
 
 pub rises-length : (t : List ℕ) (n : ℕ) → length (risesAfter (programIn t) n) ≡ risesLength
 unfolding risesAfter
