@@ -23,7 +23,7 @@ pub use verdict::{
 /// How many bytes of stack are enough for a call of any of the functions, whatever the text. As a rule a main thread has more,
 /// and a thread of the standard library unless it is asked for less.
 ///
-/// This is measured and not proved: on x86-64 no call needs more than seven tenths of it.
+/// This is measured and not proved: on x86-64 no call needs half of it.
 pub const STACK: usize = 512 * 1024;
 
 #[cfg(feature = "engine")]
