@@ -25,10 +25,6 @@ walk-val = LL.val Wk.the-type Wk′.the-laws
 abbrev pub IsWalk : Walk → Type 0
 IsWalk walk = Is Wk.the-row walk (walk-vals walk)
 
--- any step, for an element of a list that is never read past its end
-pub nowhere : Step
-nowhere = record { method = 0; node = 0; set = 0; round = 0; grade = 0; rule = 0 }
-
 -- a step has ten bytes: the byte at which step i begins is a usize
 pub in-bytes : (i m : ℕ) → i < m → m * 10 < 2 ^ 63 → i * 10 < 2 ^ 64
 in-bytes i m h k = omega (arith, h, k)

@@ -19,7 +19,7 @@ use Rattle.frames.specs.Promises.{read-exactly, read-well-formed}
 use Rattle.frames.specs.declared.Checked.{Checked}
 use Rattle.meaning.specs.Meaning.{opOf, rootTable}
 use Rattle.meaning.specs.Lowest.{methodCount, entryCount, isEntry, isDeclared, declaredTable, lowest}
-use Rattle.meaning.specs.Constraints.{Entry, Closed, declaredRoot, mainTable, forkedTable, methodOf, kindOf, nodeOf, namedMethod, isFork, forkAt, forksOf, closedOf, closedOfAll, closed, refused, FirstBroken}
+use Rattle.meaning.specs.Constraints.{Entry, Closed, declaredRoot, mainTable, forkedTable, methodOf, kindOf, nodeOf, namedMethod, isFork, forkAt, forksOf, closedOf, closedOfAll, closed, FirstBroken}
 use Rattle.meaning.specs.Laws.Answers.{when-refused}
 use Rattle.meaning.specs.Laws.Lowest.{isEntry-of}
 use Rattle.reasons.specs.Steps.{bodyReason}

@@ -2,30 +2,28 @@
 use frames::layout::GRADES;
 use frames::layout::MOST_NODES;
 ghost use mathlib.Core.Path.{_≡_};
-ghost use mathlib.Core.Bool.{cond};
 ghost use Prim.Native.Nat.{_+_, _*_, _<_};
-ghost use lib.Dec.{ltb};
-ghost use lib.ListN.{length, getD};
+ghost use lib.ListN.{length};
 ghost use Rattle.frames.specs.Layout.{layout};
 ghost use Rattle.frames.specs.Program.{methodAt, nodeAt};
 ghost use Rattle.meaning.specs.Meaning.{meaning};
 ghost use Rattle.meaning.specs.Lowest.{entryCount};
 ghost use Rattle.solver.specs.Flat.{programIn, tablesIn};
 ghost use Rattle.solver.specs.Code.Rounds.{At};
-ghost use Rattle.explainer.specs.Code.Lower.{Read, Lower, lowerLength};
+ghost use Rattle.explainer.specs.Code.Lower.{Read, Lower, childGrade, lowerLength};
 
 // Room for every node of a method at every held set.
 pub(crate) const LOWER_LENGTH: usize = GRADES * MOST_NODES;
 
-// The grade of a child under a set; of one that the op does not list, what stands for it.
-pub(crate) fn child_grade(lower: &[u8], child: usize, set: u8, absent: u8) -> u8
+// The grade of a child under a set; 0 of one that the op does not list.
+pub(crate) fn child_grade(lower: &[u8], child: usize, set: u8) -> u8
     requires { ⌜ (length (now lower) ≡ lowerLength) × (set < layout .grades) ⌝ }
-    ensures { λ r. ⌜ r ≡ cond (ltb child (layout .mostNodes)) (getD (now (lower .entry)) (layout .grades * child + set) 0) absent ⌝ }
+    ensures { λ r. ⌜ r ≡ childGrade (now (lower .entry)) child set ⌝ }
 {
     if child < MOST_NODES {
         lower[GRADES * child + set as usize]
     } else {
-        absent
+        0
     }
 }
 
@@ -45,9 +43,9 @@ fn node_grade<'a>(
     ensures { λ r. ⌜ r ≡ meaning (programIn (now (tables .entry))) (tablesIn (now (grades .entry))) (nodeAt (methodAt (programIn (now (tables .entry))) m)) n set ⌝ }
 {
     let parts = solver::parts_of(tables, grades, first + n, set);
-    let x = child_grade(lower, parts.x, parts.under, 0);
-    let y = child_grade(lower, parts.y, parts.under, 0);
-    let z = child_grade(lower, parts.z, parts.under, 0);
+    let x = child_grade(lower, parts.x, parts.under);
+    let y = child_grade(lower, parts.y, parts.under);
+    let z = child_grade(lower, parts.z, parts.under);
     solver::combined(parts.op, parts.newly, x, y, z, parts.own)
 }
 

@@ -12,8 +12,8 @@ ghost use Rattle.frames.specs.Layout.{layout};
 ghost use Rattle.meaning.specs.Meaning.{opOf};
 ghost use Rattle.solver.specs.Flat.{programIn};
 ghost use Rattle.solver.specs.Nodes.{nodeIn};
-ghost use Rattle.explainer.specs.Code.Lower.{Ready, lowerLength};
-ghost use Rattle.explainer.specs.Code.Places.{PlaceIn, SeenAt, ownCount, OwnEntry, NodeLower, childGrade};
+ghost use Rattle.explainer.specs.Code.Lower.{Ready, lowerLength, childGrade};
+ghost use Rattle.explainer.specs.Code.Places.{PlaceIn, SeenAt, ownCount, OwnEntry, NodeLower};
 
 // A node's op; its children, of which it lists some, and the set that they are graded under; how many parts it has and their grades, the
 // children's first; the whole's grade; and of a call the callee's held set.
@@ -63,9 +63,9 @@ fn part_grades(lower: &[u8], parts: Parts, listed: usize, own: u8) -> [u8; 4]
     ensures { λ r. ⌜ (length r ≡ 4) × (getD r listed 0 ≡ own) × ((0 < listed → getD r 0 0 ≡ childGrade (now (lower .entry)) (parts .x) (parts .under)) × (1 < listed → getD r 1 0 ≡ childGrade (now (lower .entry)) (parts .y) (parts .under)) × (2 < listed → getD r 2 0 ≡ childGrade (now (lower .entry)) (parts .z) (parts .under))) ⌝ }
 {
     let mut grades = [
-        child_grade(lower, parts.x, parts.under, 0),
-        child_grade(lower, parts.y, parts.under, 0),
-        child_grade(lower, parts.z, parts.under, 0),
+        child_grade(lower, parts.x, parts.under),
+        child_grade(lower, parts.y, parts.under),
+        child_grade(lower, parts.z, parts.under),
         0,
     ];
     grades[listed] = own;

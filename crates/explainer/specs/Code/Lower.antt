@@ -1,8 +1,10 @@
 -- What is known of the tables that a chain is walked over, and what the grades of a method's nodes come to.
 -- Assumes nothing.
 use Prim.Native.Nat.{ℕ, _+_, _*_, _<_}
+use mathlib.Core.Bool.{cond}
 use mathlib.Core.List.{List}
 use mathlib.Core.Path.{_≡_}
+use lib.Dec.{ltb}
 use lib.ListN.{length, getD}
 use Rattle.frames.specs.Layout.{layout}
 use Rattle.frames.specs.Program.{methodAt, nodeAt}
@@ -32,3 +34,7 @@ pub record Lower (t : List ℕ) (a : Assignment) (m n : ℕ) (lower : List ℕ) 
   pub size : length lower ≡ lowerLength
   pub node : (c S : ℕ) → c < n → S < entryCount (programIn t) m
       → getD lower (layout .grades * c + S) 0 ≡ meaning (programIn t) a (nodeAt (methodAt (programIn t) m)) c S
+
+-- the grade of a child among them; 0 of one that the op does not list
+unfoldable pub childGrade : List ℕ → (c S : ℕ) → ℕ
+childGrade lower c S = cond (ltb c (layout .mostNodes)) (getD lower (layout .grades * c + S) 0) 0

@@ -1,12 +1,11 @@
 -- Places as the code has them, what a step looks at there, and where it goes on.
 -- Assumes nothing.
-use Prim.Native.Nat.{ℕ, zero, suc, _+_, _*_, _≤_, _<_}
-use mathlib.Core.Bool.{Bool, true, false, not, cond}
+use Prim.Native.Nat.{ℕ, zero, suc, _≤_, _<_}
+use mathlib.Core.Bool.{Bool, true, false, not}
 use mathlib.Core.List.{List}
 use mathlib.Core.Path.{_≡_}
-use lib.Dec.{T, ltb}
+use lib.Dec.{T}
 use lib.ListN.{length, getD}
-use Rattle.frames.specs.Layout.{layout}
 use Rattle.frames.specs.Program.{Node, Program, methodAt}
 use Rattle.meaning.specs.Meaning.{Op, plainValue, read, write, sequence, choice, loop, synchronised, assertion, call, fork, noOp, opOf, calleeEntry, child, own}
 use Rattle.meaning.specs.Lowest.{entryCount, after, declarations, isDeclared, rounds}
@@ -49,10 +48,6 @@ pub record HasBeen (p : Program) (m S grade : ℕ) : Type 0 where
 abbrev pub NodeLower : List ℕ → Place → List ℕ → Type 0
 NodeLower t at lower =
     Lower t (tablesBefore (programIn t) (at .round)) (at .method) (length (methodAt (programIn t) (at .method) .nodes)) lower
-
--- the grade of a child, from the grades of the lower nodes
-unfoldable pub childGrade : List ℕ → (c S : ℕ) → ℕ
-childGrade lower c S = cond (ltb c (layout .mostNodes)) (getD lower (layout .grades * c + S) 0) 0
 
 -- how many parts of its own an op has
 abbrev pub ownCount : Op → ℕ

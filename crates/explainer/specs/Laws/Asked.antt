@@ -19,7 +19,7 @@ use Rattle.frames.specs.declared.Outcome.{Outcome}
 use Rattle.frames.specs.declared.Outcome.the-variants as Outcome
 use Rattle.frames.specs.Promises.{read-well-formed}
 use Rattle.meaning.specs.Meaning.{Assignment, rootOf}
-use Rattle.meaning.specs.Lowest.{methodCount, entryCount, isEntry, isDeclared, after, rounds, lowest}
+use Rattle.meaning.specs.Lowest.{methodCount, entryCount, isEntry, isDeclared, rounds, lowest}
 use Rattle.meaning.specs.Constraints.{Entry}
 use Rattle.meaning.specs.Laws.Rounds.{lowest-after}
 use Rattle.meaning.specs.Laws.Lowest.{entry-method, entry-set}

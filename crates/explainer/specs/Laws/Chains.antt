@@ -30,9 +30,6 @@ behind-left (suc i) [] s rest e = cc
 behind-left (suc i) (x ∷ chain) s rest e = behind-left i chain s rest e
 
 module _ (t noted : List ℕ) (chain : List Step) (i n : ℕ) (walk : Walk) (r : Given) (inside : i < n) (all : n ≡ length chain) (left : Left t noted chain i n walk) (given : GivenAt t noted walk r) where
-  some-rest : drop i chain ≡ [] → ⊥
-  some-rest e = omega (arith, length-drop i chain, ap length e)
-
   -- the step that is given
   pub step-is : r .step ≡ stepNo chain i
   step-is = go (r .on) refl

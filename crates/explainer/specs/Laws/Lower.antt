@@ -29,7 +29,7 @@ use Rattle.solver.specs.Laws.Engine.{set-stays, mask-set}
 use Rattle.solver.specs.Code.Rounds.{At}
 use Rattle.solver.specs.Laws.Views.{method-in, method-count}
 use Rattle.solver.specs.Laws.Flat.{entry-count, few-entries, count-read, body-node}
-use Rattle.explainer.specs.Code.Lower.{Read, Lower}
+use Rattle.explainer.specs.Code.Lower.{Read, Lower, childGrade}
 
 -- a member by number
 getD-among : (xs : List ℕ) (i d : ℕ) → i < length xs → Among (getD xs i d) xs
@@ -110,19 +110,20 @@ module _ (t : List ℕ) (read : Read t) (m first : ℕ) (at : At t m first) wher
 
     module _ (a : Assignment) (lower : List ℕ) (known : Lower t a m n lower) where
       -- what stands for a child, of the lower nodes
-      pub child-known : (i S absent : ℕ) → S < entryCount (programIn t) m → absent ≡ 0
-          → cond (ltb (childAt (nodeAt (methodAt (programIn t) m) n) i) (layout .mostNodes)) (getD lower (layout .grades * childAt (nodeAt (methodAt (programIn t) m) n) i + S) 0) absent
+      pub child-known : (i S : ℕ) → S < entryCount (programIn t) m
+          → childGrade lower (childAt (nodeAt (methodAt (programIn t) m) n) i) S
           ≡ below (programIn t) a (nodeAt (methodAt (programIn t) m)) n (childAt (nodeAt (methodAt (programIn t) m) n) i) S
-      child-known i S absent h e = go (childAt (nodeAt (methodAt (programIn t) m) n) i) (child-at i)
+      unfolding childGrade
+      child-known i S h = go (childAt (nodeAt (methodAt (programIn t) m) n) i) (child-at i)
         where
           go : (c : ℕ) → (c < n) ⊎ (c ≡ noChild)
-              → cond (ltb c (layout .mostNodes)) (getD lower (layout .grades * c + S) 0) absent ≡ below (programIn t) a (nodeAt (methodAt (programIn t) m)) n c S
+              → cond (ltb c (layout .mostNodes)) (getD lower (layout .grades * c + S) 0) 0 ≡ below (programIn t) a (nodeAt (methodAt (programIn t) m)) n c S
           go c (inl l) =
               rw (lt-ltb c (layout .mostNodes) (omega (arith, nodes-few)))
               (known .node c S l h ∙ sym (below-meaning (programIn t) a (nodeAt (methodAt (programIn t) m)) n c S l))
           go c (inr none) =
               rw (le-ltb c (layout .mostNodes) (omega arith))
-              (e ∙ sym (below-none (programIn t) a (nodeAt (methodAt (programIn t) m)) n c S (omega (arith, nodes-few))))
+              (sym (below-none (programIn t) a (nodeAt (methodAt (programIn t) m)) n c S (omega (arith, nodes-few))))
 
   -- ---- filling
 

@@ -1,17 +1,15 @@
 -- The node at a place, seen whole: its parts and their grades are those that a step has.
 -- Assumes nothing.
 use Prim.Native.Nat.{ℕ, zero, suc, _+_, _*_, _≤_, _<_}
-use mathlib.Core.Bool.{cond}
 use mathlib.Core.List.{List}
 use mathlib.Core.Path.{_≡_, refl, sym, ap, ap₂, _∙_, subst}
 use native.Mathlib.Decide.{decLt, ℕ-discrete}
 use native.Mathlib.Omega.{arith}
-use lib.Dec.{ltb}
 use lib.ListN.{length, getD}
 use Rattle.frames.specs.Layout.{layout}
 use Rattle.frames.specs.Program.{Node, methodAt, nodeAt}
 use Rattle.frames.specs.Ranges.{childrenListed}
-use Rattle.meaning.specs.Meaning.{Assignment, Op, opOf, firstName, child, own, childSet, parts, below}
+use Rattle.meaning.specs.Meaning.{Assignment, Op, opOf, firstName, child, own, childSet, below}
 use Rattle.meaning.specs.Lowest.{entryCount}
 use Rattle.reasons.specs.Steps.{tablesBefore, nodeHere, gradeAt, partsAt, partGradeAt}
 use Rattle.solver.specs.Flat.{programIn}
@@ -20,9 +18,9 @@ use Rattle.solver.specs.declared.node.Parts.{Parts}
 use Rattle.solver.specs.Laws.Engine.{op-cases, childrenListed-past}
 use Rattle.explainer.specs.declared.places.Place.{Place}
 use Rattle.explainer.specs.declared.seen.Seen.{Seen}
-use Rattle.explainer.specs.Code.Lower.{Ready}
+use Rattle.explainer.specs.Code.Lower.{Ready, childGrade}
 use Rattle.explainer.specs.Code.Picks.{partAt}
-use Rattle.explainer.specs.Code.Places.{placeOf, PlaceIn, NodeLower, childGrade, ownCount, OwnEntry, childNumber, SeenAt}
+use Rattle.explainer.specs.Code.Places.{placeOf, PlaceIn, NodeLower, ownCount, OwnEntry, childNumber, SeenAt}
 use Rattle.explainer.specs.Laws.Lower.{under-known, under-below, child-known, lower-fewer, sets-few}
 use Rattle.explainer.specs.Laws.Callee.{grade-found, callee-found}
 use Rattle.explainer.specs.Laws.Places.{node-here}
@@ -148,13 +146,13 @@ module _ (t noted : List ℕ) (ready : Ready t noted) (at : Place) (placed : Pla
           part-at i h l = unfold partsAt in part-own (programIn t) (tablesBefore (programIn t) (at .round)) here (at .set) i h l
 
       child-read : (i : ℕ) → i < listed → getD grades i 0 ≡ partGradeAt (programIn t) (placeOf at) (child (childNumber seen i) (r .under))
-      unfolding partGradeAt childGrade nodeHere
+      unfolding partGradeAt nodeHere
       child-read i l =
           read-child i (few i l) l
-          ∙ ap (λ (c : ℕ). cond (ltb c (layout .mostNodes)) (getD lower (layout .grades * c + r .under) 0) 0) (number i (few i l))
+          ∙ ap (λ (c : ℕ). childGrade lower c (r .under)) (number i (few i l))
           ∙ child-known t (ready .read) (at .method) (at .first) (placed .first) (at .node) (placed .fits .node) (tablesBefore (programIn t) (at .round)) lower
           (lower-fewer t (tablesBefore (programIn t) (at .round)) (at .method) (at .node) (length (methodAt (programIn t) (at .method) .nodes)) lower (lib-le (placed .fits .node)) known)
-          i (r .under) 0 under-inside refl
+          i (r .under) under-inside
           ∙ ap (λ (c : ℕ). below (programIn t) (tablesBefore (programIn t) (at .round)) (nodeAt (methodAt (programIn t) (at .method))) (at .node) c (r .under)) (sym (number i (few i l)))
         where
           lib-le : {x y : ℕ} → x < y → x ≤ y

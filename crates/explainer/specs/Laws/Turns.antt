@@ -11,11 +11,11 @@ use lib.Dec.{T, eqb}
 use lib.ListN.{length, getD}
 use Rattle.counting.specs.Counting.{first}
 use Rattle.counting.specs.Laws.Counting.{first-same}
-use Rattle.grades.specs.Grades.{const, error, compose}
+use Rattle.grades.specs.Grades.{error, compose}
 use Rattle.grades.specs.Laws.Grades.{cap-grade, compose-const}
 use Rattle.grades.specs.HeldSets.{held}
 use Rattle.frames.specs.Program.{Program, methodAt, nodeAt}
-use Rattle.meaning.specs.Meaning.{Op, call, fork, opOf, listed, children, childSet, firstName, Part, child, own, ownPart, parts, partGrade, whole, nodeGrade, below, meaning}
+use Rattle.meaning.specs.Meaning.{Op, call, opOf, listed, children, childSet, firstName, Part, child, own, ownPart, parts, partGrade, whole, nodeGrade, below, meaning}
 use Rattle.meaning.specs.Lowest.{isDeclared}
 use Rattle.meaning.specs.Laws.Meaning.{below-error}
 use Rattle.reasons.specs.Steps.{Place, tablesBefore, nodeHere, gradeAt, partsAt, partGradeAt, Pick, picked, none, firstPart, lastAtomic, pickOf, pickAt, orElse, ends, goesOn, Turn, endRule, ownTurn}

@@ -224,11 +224,7 @@ chain-only p (on at to steps e c) (on at′ to′ others e′ c′) =
     let same : to′ ≡ to = cc in
     ap (λ (l : List Step). stepAt p at ∷ l) (chain-only p c (subst (λ (x : Place). Chain p x others) same c′))
 
--- so a chain may be worked out with any number of steps that is enough
-pub steps-enough : (p : Program) → WellFormed p → (n : ℕ) (at : Place) → PlaceFits p at → stepsLeft p at ≤ n → stepsFrom p n at ≡ chainFrom p at
-steps-enough p w n at f h = chain-only p (chain-permitted p w at f) (steps-permitted p w n at f h)
-
--- and step by step
+-- so a chain may be worked out step by step
 pub chain-step : (p : Program) → WellFormed p → (at : Place) → PlaceFits p at → chainFrom p at ≡ stepAt p at ∷ later (chainFrom p) (turnAt p at .next)
 chain-step p w at f = chain-only p (go (turnAt p at .next) refl (moves-at p w at f)) (chain-permitted p w at f)
   where

@@ -127,27 +127,6 @@ first-final p m H =
     first-round p (suc (rounds p)) m H (lowest p m H) (omega arith)
     (ap (λ (a : Assignment). a m H) (rounds-stop p ∙ sym (lowest-after p)))
 
--- the first round of a grade is the one in which the entry rises to it
-pub first-is : (p : Program) (n m H g : ℕ) → after p (declarations p) (suc n) m H ≡ g → after p (declarations p) n m H < g → firstRound p m H g ≡ suc n
-first-is p n m H g e l = go (first-round p (suc n) m H g (omega arith) e) (decLt (firstRound p m H g) (suc n))
-  where
-    go : FirstRound p m H g (suc n) → Dec (firstRound p m H g < suc n) → firstRound p m H g ≡ suc n
-    go f (yes k) = absurd (omega (arith, entry-rises p (firstRound p m H g) n m H (omega arith), f .has))
-    go f (no k) = omega (arith, f .noLater)
-
-pub first-rises : (p : Program) (k n m H g : ℕ) → Entry p m H → T (not (isDeclared p m)) → 1 ≤ g → FirstRound p m H g k → firstRound p m H g ≡ suc n
-    → after p (declarations p) n m H < g
-first-rises p k n m H g e u h f r = go (decLt (after p (declarations p) n m H) g)
-  where
-    has : after p (declarations p) (suc n) m H ≡ g
-    has = subst (λ (i : ℕ). after p (declarations p) i m H ≡ g) r (f .has)
-
-    go : Dec (after p (declarations p) n m H < g) → after p (declarations p) n m H < g
-    go (yes l) = l
-    go (no l) =
-        let same : after p (declarations p) n m H ≡ g = omega (arith, after-rises p (declarations p) n m H, has) in
-        absurd (omega (arith, first-risen p n m H g e u h same .noLater))
-
 -- ---- a root's place has the grade
 
 pub root-grade : (p : Program) (n m H g : ℕ) → Entry p m H → T (not (isDeclared p m)) → FirstRound p m H g n → gradeAt p (rootPlace p m H g) ≡ g

@@ -54,7 +54,8 @@ use Rattle.explainer.specs.declared.walk.Walk.{Walk}
 use Rattle.explainer.specs.declared.walk.Given.{Given as GivenStep}
 use Rattle.explainer.proofs.Clauses.{says-two, heard-two, needs-three}
 use Rattle.explainer.proofs.Lending.{slice-at, lends}
-use Rattle.explainer.proofs.Records.{step-vals, walk-vals, walk-val, IsWalk, nowhere, in-bytes}
+use Rattle.explainer.specs.Code.Chains.{noStep}
+use Rattle.explainer.proofs.Records.{step-vals, walk-vals, walk-val, IsWalk, in-bytes}
 use Rattle.explainer.proofs.Loops.{holds, fails, ty, env, turning}
 use Rattle.explainer.proofs.walk.Step as S
 use Rattle.explainer.proofs.walk.Step.Laws as S′
@@ -256,7 +257,7 @@ module _ {M : Type 1} (𝓤 : URA M) (H : Heap 𝓤) (A : Atoms 𝓤) (W : Given
         assigns ! (bin ! (load ! (from ! (stop !)) (look ! 23 refl)) (lit ! tt) (record { fits = bytes })) (from ! (stop !)) (init ! 13 refl (tt, record { fits = bytes })) $
         assigns ! (bin ! (load ! (from ! (fld ! refl (stop !))) (look-in ! 29 (sub ! 0 refl (whole !)))) (load ! (from ! (stop !)) (look ! 13 refl)) tt) (from ! (stop !)) (init ! 11 refl (tt, tt)) $
         rewrite ! 11 (λ (j : ℕ). ‵ (fat fullShare tyPtr l₁₄ 0 (vptr b j))) (sym (place-is 10 o i)) refl $
-        elem-out ! S.the-row (Is S.the-row) (shows 𝓤 H A S.the-row) step-vals (LL.tells S.the-type S′.the-laws) fullShare zs i nowhere b o within (λ _.
+        elem-out ! S.the-row (Is S.the-row) (shows 𝓤 H A S.the-row) step-vals (LL.tells S.the-type S′.the-laws) fullShare zs i noStep b o within (λ _.
         assigns ! (of-opd ! (load ! (from ! (fld ! refl (stop !))) (look-in ! 23 (sub ! 0 refl (whole !))))) (from ! (hop ! (look ! 13 refl) (stop !))) (store-raw ! 0 refl (LL.lawful S.the-type S′.the-laws 𝓤 H A W .typed (r .step) _ step-is .0)) $
         move ! (1 ∷ []) $ drop ! $ owned ! S.the-row (Is S.the-row) (LL.makes S.the-type S′.the-plain 𝓤 H A) (r .step) _ step-is $ move ! (1 ∷ 0 ∷ []) $ elem-put ! S.the-row fullShare zs i (r .step) (step-vals (r .step)) b o within $
         -- and the chain goes on

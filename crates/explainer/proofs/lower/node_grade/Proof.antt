@@ -1,14 +1,11 @@
 -- `explainer::lower::node_grade` meets its contract.
 -- Assumes nothing.
-use mathlib.Core.Path.{_≡_, refl, sym, ap, _∙_, subst}
+use mathlib.Core.Path.{_≡_, sym, ap, _∙_, subst}
 use native.Mathlib.Omega.{arith}
 use borrow.Author.Needs.{needs}
 use denote.Ref.{now}
-use Prim.Native.Nat.{ℕ, _+_, _*_, _<_}
-use mathlib.Core.Bool.{not, cond}
-use lib.Dec.{ltb}
-use lib.ListN.{getD}
-use Rattle.frames.specs.Layout.{layout}
+use Prim.Native.Nat.{ℕ, _<_}
+use mathlib.Core.Bool.{not}
 use Rattle.frames.specs.Program.{Node, methodAt, nodeAt}
 use Rattle.grades.specs.HeldSets.{held}
 use Rattle.meaning.specs.Meaning.{opOf, firstName, childSet, below}
@@ -16,6 +13,7 @@ use Rattle.meaning.specs.Lowest.{entryCount}
 use Rattle.solver.specs.Flat.{programIn, tablesIn}
 use Rattle.solver.specs.Nodes.{childAt, ownGrade, maskSet}
 use Rattle.solver.specs.Laws.Engine.{assembled}
+use Rattle.explainer.specs.Code.Lower.{childGrade}
 use Rattle.explainer.specs.Laws.Lower.{sets-few, node-known, nodes-few, under-known, under-below, child-known}
 use borrow.Author.Needs.{needs}
 use Rattle.explainer.proofs.lower.node_grade.Statement.{statement}
@@ -86,9 +84,9 @@ returns c =
     let r = c .before .before .before .before .parts-of .result in
     let here = nodeAt (methodAt (programIn t) (a .m)) (a .n) in
     let graded = child-known t (given .0 .0) (a .m) (a .first) (given .0 .1) (a .n) (given .1 .0 .0) g (now (a .lower)) (given .1 .1) in
-    let one : (i child v : ℕ) → child ≡ childAt here i → v ≡ cond (ltb child (layout .mostNodes)) (getD (now (a .lower)) (layout .grades * child + r .under) 0) 0
+    let one : (i child v : ℕ) → child ≡ childAt here i → v ≡ childGrade (now (a .lower)) child (r .under)
     → v ≡ below (programIn t) g (nodeAt (methodAt (programIn t) (a .m))) (a .n) child (r .under)
-    = λ i child v e is. is ∙ ap (λ (x : ℕ). cond (ltb x (layout .mostNodes)) (getD (now (a .lower)) (layout .grades * x + r .under) 0) 0) e ∙ graded i (r .under) 0 inside refl
+    = λ i child v e is. is ∙ ap (λ (x : ℕ). childGrade (now (a .lower)) x (r .under)) e ∙ graded i (r .under) inside
     ∙ ap (λ (x : ℕ). below (programIn t) g (nodeAt (methodAt (programIn t) (a .m))) (a .n) x (r .under)) (sym e) in
     let x = of .x ∙ ap (λ (y : Node). childAt y 0) node in
     let y = of .y ∙ ap (λ (y : Node). childAt y 1) node in

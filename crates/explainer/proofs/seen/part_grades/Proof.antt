@@ -6,7 +6,6 @@ use borrow.Author.Needs.{needs}
 use mathlib.Core.List.{[], _∷_}
 use lib.ListN.{length-set}
 use lib.Seq.{getD-set-same, getD-set-other}
-use Rattle.explainer.specs.Code.Places.{childGrade}
 use borrow.Author.Needs.{needs}
 use Rattle.explainer.proofs.seen.part_grades.Statement.{statement}
 use Rattle.explainer.proofs.seen.part_grades.Tie as tie
@@ -24,7 +23,6 @@ array-write-grades : tie.Need-array-write-grades
 array-write-grades c = search needs
 
 returns : tie.Need-returns
-unfolding childGrade
 returns c =
     let x = c .before .before .child-grade .ensures in
     let y = c .before .child-grade2 .ensures in
