@@ -1,5 +1,6 @@
--- The reason of a text that is refused by 7: the chain of the named method's root, for kind 3 of the forked method's, at the named held set over the lowest
--- tables. A text with any other outcome has none.
+-- The reason of a text that is refused by 7: the chain of the named method's root, for kind 3 of the forked method's, at the named held set. Of a broken
+-- declaration it is that of the body's grade over the lowest tables, else that of the entry's, which is in the lowest tables what it is. A text with any
+-- other outcome has none.
 -- Assumes nothing.
 use Prim.Native.Nat.{ℕ, _*_, _/_}
 use mathlib.Core.Bool.{cond}

@@ -1,4 +1,5 @@
-// The reason of a text that a broken constraint refuses: the chain of the root that the constraint is about, over the lowest tables.
+// The reason of a text that a broken constraint refuses: of a declared method's body the chain of its root, over the lowest tables; else the reason of the
+// entry that the constraint is about.
 use crate::asked::first_walk;
 use crate::asked::is_entry;
 use crate::bytes::STEP_BYTES;

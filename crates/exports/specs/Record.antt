@@ -1,4 +1,5 @@
--- The record of a call from another language: document 01's numbers in eleven bytes, two-byte numbers high byte first.
+-- The record of a call from another language: document 01's numbers in eleven bytes, of an explanation also how many steps, in thirteen. Two-byte numbers
+-- are high byte first.
 -- Assumes nothing.
 use Prim.Native.Nat.{ℕ, _/_, _%_}
 use mathlib.Core.Bool.{cond}

@@ -1,4 +1,4 @@
-//! The graders that are compared, each behind the two functions of `include/ikhzorvan.h`.
+//! The graders that are compared, each behind the functions of `include/ikhzorvan.h` that grade.
 
 use crate::bridge::Bridge;
 use ikhzorvan::{Verdict, RECORD_LEN};

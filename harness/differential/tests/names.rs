@@ -6,6 +6,7 @@ use ikhzorvan::{
 };
 
 const CHECKER: &str = include_str!("../../../crates/checker/src/lib.rt");
+const EXPLAINER: &str = include_str!("../../../crates/explainer/src/asked.rt");
 const HEADER: &str = include_str!("../../../include/ikhzorvan.h");
 const README: &str = include_str!("../../../README.md");
 
@@ -29,14 +30,25 @@ fn camel_case(name: &str) -> String {
     name.split('_').map(|word| word[..1].to_string() + &word[1..].to_lowercase()).collect()
 }
 
-#[test]
-fn rattle_has_the_names_of_rust() {
-    let (_, rest) = CHECKER.split_once("pub enum Verdict {\n").expect("the enum");
+/// The refusals of explaining alone, by number. Rust has the first.
+fn of_explaining() -> [(u8, String); 2] {
+    [(Refusal::NoEntry.number(), format!("{:?}", Refusal::NoEntry)), (11, "TooShort".to_string())]
+}
+
+/// The names of an enum's cases in Rattle.
+fn cases<'a>(source: &'a str, name: &str) -> Vec<&'a str> {
+    let (_, rest) = source.split_once(&format!("pub enum {name} {{\n")).expect("the enum");
     let (cases, _) = rest.split_once("\n}").expect("its end");
     let outermost = cases.lines().filter_map(|line| line.strip_prefix("    "));
     let cases = outermost.filter(|line| line.starts_with(|byte: char| byte.is_ascii_uppercase()));
-    let found: Vec<_> = cases.map(|line| line.split(|byte: char| !byte.is_alphanumeric()).next().unwrap()).collect();
-    assert_eq!(found, names());
+    cases.map(|line| line.split(|byte: char| !byte.is_alphanumeric()).next().unwrap()).collect()
+}
+
+#[test]
+fn rattle_has_the_names_of_rust() {
+    assert_eq!(cases(CHECKER, "Verdict"), names());
+    let refused = names().into_iter().skip(2).chain(of_explaining().map(|(_, name)| name));
+    assert_eq!(cases(EXPLAINER, "Reason")[1..], refused.collect::<Vec<_>>());
 }
 
 #[test]
@@ -48,8 +60,12 @@ fn c_has_the_names_of_rust() {
         assert_eq!(camel_case(found), *name);
     }
     assert!(HEADER.contains("IKHZORVAN_BAD_RECORD = 255 "));
-    assert!(HEADER.contains(&format!("IKHZORVAN_NO_ENTRY = {},", Refusal::NoEntry.number())));
-    assert!(HEADER.contains("IKHZORVAN_TOO_SHORT = 11,"));
+    for (number, name) in of_explaining() {
+        let mut lines = HEADER
+            .lines()
+            .filter_map(|line| line.trim().strip_prefix("IKHZORVAN_")?.split_once(&format!(" = {number},")));
+        assert!(lines.any(|(found, _)| camel_case(found) == name), "{name}");
+    }
 }
 
 #[test]
@@ -92,5 +108,8 @@ fn readme_has_the_names_of_rust() {
     for (number, name) in names().iter().enumerate().skip(1) {
         let is_it = |row: &&str| row.starts_with(&format!("{number}")) && row.contains(&format!("| `{name}` |"));
         assert!(rows.clone().any(|row| is_it(&row)), "{number}, {name}");
+    }
+    for (number, name) in of_explaining() {
+        assert!(rows.clone().any(|row| row.starts_with(&format!("{number} | `{name}` |"))), "{number}, {name}");
     }
 }

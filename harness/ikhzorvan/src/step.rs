@@ -18,7 +18,7 @@ pub struct Step {
     pub rule: u8,
 }
 
-/// The rules of a step. The first two go on to the next step, the others end the reason.
+/// The rules of a step. `CHILD` and `CALLEE` go on to the next step, the others end the reason.
 pub mod rule {
     /// A plain value.
     pub const PLAIN: u8 = 0;
