@@ -14,7 +14,7 @@ use lib.Seq.{getD-set-same, getD-set-other}
 use Rattle.frames.specs.Layout.{layout}
 use Rattle.frames.specs.Links.{nodeCount}
 use Rattle.frames.specs.Tables.{cell, methodOf}
-use Rattle.frames.specs.Program.{Method, methodAt, nodeAt}
+use Rattle.frames.specs.Program.{Node, Method, methodAt, nodeAt}
 use Rattle.frames.specs.Laws.Tables.{nodes-length}
 use Rattle.grades.specs.HeldSets.{entries, noName}
 use Rattle.grades.specs.Laws.HeldSets.{add-below}
@@ -24,7 +24,8 @@ use Rattle.meaning.specs.Tree.{Among}
 use Rattle.meaning.specs.Laws.Tree.{child-below}
 use Rattle.meaning.specs.Laws.Meaning.{below-meaning, below-none}
 use Rattle.solver.specs.Flat.{programIn}
-use Rattle.solver.specs.Nodes.{nodeIn, noChild, childAt, maskSet}
+use Rattle.solver.specs.Nodes.{nodeIn, noChild, childAt, maskSet, PartsOf}
+use Rattle.solver.specs.declared.node.Parts.{Parts}
 use Rattle.solver.specs.Laws.Engine.{set-stays, mask-set}
 use Rattle.solver.specs.Code.Rounds.{At}
 use Rattle.solver.specs.Laws.Views.{method-in, method-count}
@@ -88,14 +89,14 @@ module _ (t : List ℕ) (read : Read t) (m first : ℕ) (at : At t m first) wher
         subst (λ (x : ℕ). x < methodAt (programIn t) m .k) (getD-any (nodeAt (methodAt (programIn t) m) n .names) (omega (arith, node .names))) (node .synchronised six)
 
     -- the set that the children are graded under
-    pub under-known : (H : ℕ) → maskSet (nodeAt (methodAt (programIn t) m) n .op) (firstName (nodeAt (methodAt (programIn t) m) n .names)) H
+    under-known : (H : ℕ) → maskSet (nodeAt (methodAt (programIn t) m) n .op) (firstName (nodeAt (methodAt (programIn t) m) n .names)) H
         ≡ childSet (opOf (nodeAt (methodAt (programIn t) m) n .op)) (nodeAt (methodAt (programIn t) m) n .names) H
     unfolding methodCount
     under-known H =
         mask-set (nodeAt (methodAt (programIn t) m) n .op) (nodeAt (methodAt (programIn t) m) n .names) H
         (λ six. omega (arith, lock-known six, read .wellFormed .methods m method-known .names))
 
-    pub under-below : (H : ℕ) → H < entryCount (programIn t) m
+    under-below : (H : ℕ) → H < entryCount (programIn t) m
         → childSet (opOf (nodeAt (methodAt (programIn t) m) n .op)) (nodeAt (methodAt (programIn t) m) n .names) H < entryCount (programIn t) m
     unfolding entryCount entries opOf
     under-below H h = go (nodeAt (methodAt (programIn t) m) n .op) refl (ℕ-discrete (nodeAt (methodAt (programIn t) m) n .op) 6)
@@ -107,6 +108,17 @@ module _ (t : List ℕ) (read : Read t) (m first : ℕ) (at : At t m first) wher
             (add-below (methodAt (programIn t) m .k) H _ h (lock-known six))
         go op e (no other) =
             subst (λ (S : ℕ). S < entries (methodAt (programIn t) m .k)) (sym (set-stays (nodeAt (methodAt (programIn t) m) n .op) other (nodeAt (methodAt (programIn t) m) n .names) H)) h
+
+    -- of a node's parts, as they are worked out: the set is one of the method's
+    module _ (a : Assignment) (H : ℕ) (inside : H < entryCount (programIn t) m) (r : Parts) (of : PartsOf (programIn t) a (nodeIn t (first + n)) H r) where
+      pub under-is : r .under ≡ childSet (opOf (nodeAt (methodAt (programIn t) m) n .op)) (nodeAt (methodAt (programIn t) m) n .names) H
+      under-is = of .under ∙ ap (λ (x : Node). maskSet (x .op) (firstName (x .names)) H) node-known ∙ under-known H
+
+      pub under-inside : r .under < entryCount (programIn t) m
+      under-inside = subst (λ (S : ℕ). S < entryCount (programIn t) m) (sym under-is) (under-below H inside)
+
+      pub under-few : r .under < layout .grades
+      under-few = omega (arith, under-inside, sets-few)
 
     module _ (a : Assignment) (lower : List ℕ) (known : Lower t a m n lower) where
       -- what stands for a child, of the lower nodes

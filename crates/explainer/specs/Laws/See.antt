@@ -9,11 +9,10 @@ use lib.ListN.{length, getD}
 use Rattle.frames.specs.Layout.{layout}
 use Rattle.frames.specs.Program.{Node, methodAt, nodeAt}
 use Rattle.frames.specs.Ranges.{childrenListed}
-use Rattle.meaning.specs.Meaning.{Assignment, Op, opOf, firstName, child, own, childSet, below}
-use Rattle.meaning.specs.Lowest.{entryCount}
+use Rattle.meaning.specs.Meaning.{Assignment, Op, opOf, child, own, childSet, below}
 use Rattle.reasons.specs.Steps.{tablesBefore, nodeHere, gradeAt, partsAt, partGradeAt}
 use Rattle.solver.specs.Flat.{programIn}
-use Rattle.solver.specs.Nodes.{nodeIn, childAt, ownGrade, maskSet, PartsOf}
+use Rattle.solver.specs.Nodes.{nodeIn, childAt, ownGrade, PartsOf}
 use Rattle.solver.specs.declared.node.Parts.{Parts}
 use Rattle.solver.specs.Laws.Engine.{op-cases, childrenListed-past}
 use Rattle.explainer.specs.declared.places.Place.{Place}
@@ -21,7 +20,7 @@ use Rattle.explainer.specs.declared.seen.Seen.{Seen}
 use Rattle.explainer.specs.Code.Lower.{Ready, childGrade}
 use Rattle.explainer.specs.Code.Picks.{partAt}
 use Rattle.explainer.specs.Code.Places.{placeOf, PlaceIn, NodeLower, ownCount, OwnEntry, childNumber, SeenAt}
-use Rattle.explainer.specs.Laws.Lower.{under-known, under-below, child-known, lower-fewer, sets-few}
+use Rattle.explainer.specs.Laws.Lower.{under-is, under-inside, child-known, lower-fewer}
 use Rattle.explainer.specs.Laws.Callee.{grade-found, callee-found}
 use Rattle.explainer.specs.Laws.Places.{node-here}
 use Rattle.explainer.specs.Laws.Seen.{own-apart, call-number, own-few, parts-count, part-child, part-own}
@@ -47,19 +46,7 @@ module _ (t noted : List ℕ) (ready : Ready t noted) (at : Place) (placed : Pla
 
   pub under-seen : r .under ≡ childSet (opOf (nodeHere (programIn t) (placeOf at) .op)) (nodeHere (programIn t) (placeOf at) .names) (at .set)
   unfolding nodeHere
-  under-seen =
-      of .under
-      ∙ ap (λ (x : Node). maskSet (x .op) (firstName (x .names)) (at .set)) same-node
-      ∙ under-known t (ready .read) (at .method) (at .first) (placed .first) (at .node) (placed .fits .node) (at .set)
-
-  pub under-inside : r .under < entryCount (programIn t) (at .method)
-  unfolding nodeHere
-  under-inside =
-      subst (λ (S : ℕ). S < entryCount (programIn t) (at .method)) (sym under-seen)
-      (under-below t (ready .read) (at .method) (at .first) (placed .first) (at .node) (placed .fits .node) (at .set) (placed .fits .set))
-
-  pub under-few : r .under < layout .grades
-  under-few = omega (arith, under-inside, sets-few t (ready .read) (at .method) (at .first) (placed .first))
+  under-seen = under-is t (ready .read) (at .method) (at .first) (placed .first) (at .node) (placed .fits .node) b (at .set) (placed .fits .set) r of
 
   -- its own part, in the tables before the round
   module _ (grade set : ℕ) (owned : OwnEntry (programIn t) (nodeIn t (at .first + at .node)) at (r .own) grade set) where
@@ -152,7 +139,7 @@ module _ (t noted : List ℕ) (ready : Ready t noted) (at : Place) (placed : Pla
           ∙ ap (λ (c : ℕ). childGrade lower c (r .under)) (number i (few i l))
           ∙ child-known t (ready .read) (at .method) (at .first) (placed .first) (at .node) (placed .fits .node) (tablesBefore (programIn t) (at .round)) lower
           (lower-fewer t (tablesBefore (programIn t) (at .round)) (at .method) (at .node) (length (methodAt (programIn t) (at .method) .nodes)) lower (lib-le (placed .fits .node)) known)
-          i (r .under) under-inside
+          i (r .under) (under-inside t (ready .read) (at .method) (at .first) (placed .first) (at .node) (placed .fits .node) b (at .set) (placed .fits .set) r of)
           ∙ ap (λ (c : ℕ). below (programIn t) (tablesBefore (programIn t) (at .round)) (nodeAt (methodAt (programIn t) (at .method))) (at .node) c (r .under)) (sym (number i (few i l)))
         where
           lib-le : {x y : ℕ} → x < y → x ≤ y

@@ -6,7 +6,6 @@ use denote.Ref.{now}
 use Rattle.frames.specs.declared.Outcome.the-variants as Outcome
 use Rattle.explainer.specs.declared.asked.Reason.the-variants as Reason
 use Rattle.explainer.specs.Laws.Asked.{read-whole, read-refused}
-use borrow.Author.Needs.{needs}
 use Rattle.explainer.proofs.asked.by_reading.Statement.{statement}
 use Rattle.explainer.proofs.asked.by_reading.Tie as tie
 

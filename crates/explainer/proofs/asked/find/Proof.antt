@@ -5,7 +5,6 @@ use borrow.Author.Needs.{needs}
 use denote.Ref.{now}
 use Rattle.explainer.specs.Code.Asked.{countOf}
 use Rattle.explainer.specs.Laws.Asked.{gives-none, solver-ready, solver-rounds, met-reason, broken-reason, some-room}
-use borrow.Author.Needs.{needs}
 use Rattle.explainer.proofs.asked.find.Statement.{statement}
 use Rattle.explainer.proofs.asked.find.Tie as tie
 

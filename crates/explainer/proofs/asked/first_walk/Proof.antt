@@ -25,7 +25,6 @@ use Rattle.explainer.specs.Code.Before.{risenCount}
 use Rattle.explainer.specs.Laws.Before.{entry-known}
 use Rattle.explainer.specs.Laws.Places.{rises-size, methods-few, root-number, set-few}
 use Rattle.explainer.specs.Laws.Asked.{starts-declared, final-been, starts-undeclared}
-use borrow.Author.Needs.{needs}
 use Rattle.explainer.proofs.asked.first_walk.Statement.{statement}
 use Rattle.explainer.proofs.asked.first_walk.Tie as tie
 

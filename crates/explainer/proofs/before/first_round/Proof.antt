@@ -9,7 +9,6 @@ use mathlib.Core.List.{List}
 use lib.ListN.{getD}
 use Rattle.frames.specs.Layout.{layout}
 use Rattle.explainer.specs.Code.Before.{roundAt}
-use borrow.Author.Needs.{needs}
 use Rattle.explainer.proofs.before.first_round.Statement.{statement}
 use Rattle.explainer.proofs.before.first_round.Tie as tie
 

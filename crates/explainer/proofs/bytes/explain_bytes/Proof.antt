@@ -8,7 +8,6 @@ use Prim.Native.Nat.{ℕ, _/_}
 use lib.ListN.{length, length-replicate}
 use Rattle.explainer.specs.Code.Lower.{lowerLength}
 use Rattle.explainer.specs.Laws.Asked.{not-entered, count-room, chain-whole, bytes-put}
-use borrow.Author.Needs.{needs}
 use Rattle.explainer.proofs.bytes.explain_bytes.Statement.{statement}
 use Rattle.explainer.proofs.bytes.explain_bytes.Tie as tie
 

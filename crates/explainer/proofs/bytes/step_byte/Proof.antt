@@ -6,7 +6,6 @@ use borrow.Author.Needs.{needs}
 use Prim.Native.Nat.{ℕ, zero, suc, _<_}
 use lib.ListN.{getD}
 use Rattle.explainer.specs.Explain.{stepBytes}
-use borrow.Author.Needs.{needs}
 use Rattle.explainer.proofs.bytes.step_byte.Statement.{statement}
 use Rattle.explainer.proofs.bytes.step_byte.Tie as tie
 

@@ -7,7 +7,6 @@ use borrow.Author.Needs.{needs}
 use Prim.Native.Nat.{ℕ}
 use Rattle.grades.specs.HeldSets.{held, noName}
 use Rattle.explainer.specs.Code.Callee.{agrees}
-use borrow.Author.Needs.{needs}
 use Rattle.explainer.proofs.callee.agrees.Statement.{statement}
 use Rattle.explainer.proofs.callee.agrees.Tie as tie
 

@@ -30,19 +30,13 @@ cast-node-grade c =
     let a = c .before .before .before .before .before .before .args in
     let given = c .before .before .before .before .before .before .pre in
     let t = now (a .tables) in
-    let at = c .before .before .loop in
     let few = sets-few t (given .0 .0) (a .m) (a .first) (given .0 .1) in
-    let inside = nodes-few t (given .0 .0) (a .m) (a .first) (given .0 .1) (a .n) (given .1 .0 .0) in
     omega (arith, few, given .1 .0 .1)
 
 node-grade-requires : tie.Need-node-grade-requires Inv-loop μ-loop
 node-grade-requires c κs =
-    let a = c .before .before .before .before .before .before .args in
     let given = c .before .before .before .before .before .before .pre in
-    let t = now (a .tables) in
     let at = c .before .before .loop in
-    let few = sets-few t (given .0 .0) (a .m) (a .first) (given .0 .1) in
-    let inside = nodes-few t (given .0 .0) (a .m) (a .first) (given .0 .1) (a .n) (given .1 .0 .0) in
     (given .0, ((given .1 .0 .0, omega (arith, given .1 .0 .1)), at .inv .1))
 
 mul-lower : tie.Need-mul-lower Inv-loop μ-loop
@@ -50,8 +44,6 @@ mul-lower c =
     let a = c .before .before .before .before .before .before .before .args in
     let given = c .before .before .before .before .before .before .before .pre in
     let t = now (a .tables) in
-    let at = c .before .before .before .loop in
-    let few = sets-few t (given .0 .0) (a .m) (a .first) (given .0 .1) in
     let inside = nodes-few t (given .0 .0) (a .m) (a .first) (given .0 .1) (a .n) (given .1 .0 .0) in
     omega (arith, inside)
 
@@ -60,7 +52,6 @@ add-lower c =
     let a = c .before .before .before .before .before .before .before .args in
     let given = c .before .before .before .before .before .before .before .pre in
     let t = now (a .tables) in
-    let at = c .before .before .before .loop in
     let few = sets-few t (given .0 .0) (a .m) (a .first) (given .0 .1) in
     let inside = nodes-few t (given .0 .0) (a .m) (a .first) (given .0 .1) (a .n) (given .1 .0 .0) in
     omega (arith, inside, few, given .1 .0 .1)
@@ -80,9 +71,7 @@ add-set c =
     let a = c .before .before .before .before .before .before .before .args in
     let given = c .before .before .before .before .before .before .before .pre in
     let t = now (a .tables) in
-    let at = c .before .before .before .loop in
     let few = sets-few t (given .0 .0) (a .m) (a .first) (given .0 .1) in
-    let inside = nodes-few t (given .0 .0) (a .m) (a .first) (given .0 .1) (a .n) (given .1 .0 .0) in
     omega (arith, few, given .1 .0 .1)
 
 loop-less : tie.Need-loop-less Inv-loop μ-loop
@@ -111,8 +100,6 @@ returns c =
     let given = c .before .before .before .before .before .pre in
     let t = now (a .tables) in
     let at = c .before .loop in
-    let few = sets-few t (given .0 .0) (a .m) (a .first) (given .0 .1) in
-    let inside = nodes-few t (given .0 .0) (a .m) (a .first) (given .0 .1) (a .n) (given .1 .0 .0) in
     lower-next t (given .0 .0) (a .m) (a .first) (given .0 .1) (tablesIn (now (a .grades))) (a .n) (at .lower) (at .inv .1) (λ S l. at .inv .2 S (omega (arith, given .1 .0 .1)))
 
 pub grade-node-spec : {M : Type 1} → statement M

@@ -1,21 +1,19 @@
 -- `explainer::lower::node_grade` meets its contract.
 -- Assumes nothing.
-use mathlib.Core.Path.{_≡_, sym, ap, _∙_, subst}
+use mathlib.Core.Path.{_≡_, sym, ap, _∙_}
 use native.Mathlib.Omega.{arith}
 use borrow.Author.Needs.{needs}
 use denote.Ref.{now}
-use Prim.Native.Nat.{ℕ, _<_}
+use Prim.Native.Nat.{ℕ}
 use mathlib.Core.Bool.{not}
 use Rattle.frames.specs.Program.{Node, methodAt, nodeAt}
 use Rattle.grades.specs.HeldSets.{held}
-use Rattle.meaning.specs.Meaning.{opOf, firstName, childSet, below}
-use Rattle.meaning.specs.Lowest.{entryCount}
+use Rattle.meaning.specs.Meaning.{opOf, firstName, below}
 use Rattle.solver.specs.Flat.{programIn, tablesIn}
-use Rattle.solver.specs.Nodes.{childAt, ownGrade, maskSet}
+use Rattle.solver.specs.Nodes.{childAt, ownGrade}
 use Rattle.solver.specs.Laws.Engine.{assembled}
 use Rattle.explainer.specs.Code.Lower.{childGrade}
-use Rattle.explainer.specs.Laws.Lower.{sets-few, node-known, nodes-few, under-known, under-below, child-known}
-use borrow.Author.Needs.{needs}
+use Rattle.explainer.specs.Laws.Lower.{node-known, nodes-few, under-is, under-inside, under-few, child-known}
 use Rattle.explainer.proofs.lower.node_grade.Statement.{statement}
 use Rattle.explainer.proofs.lower.node_grade.Tie as tie
 
@@ -31,40 +29,22 @@ child-grade-requires : tie.Need-child-grade-requires
 child-grade-requires c κs =
     let a = c .before .before .before .before .args in
     let given = c .before .before .before .before .pre in
-    let t = now (a .tables) in
-    let node = node-known t (given .0 .0) (a .m) (a .first) (given .0 .1) (a .n) (given .1 .0 .0) in
-    let of = c .parts-of .ensures in
-    let under : c .parts-of .result .under ≡ childSet (opOf (nodeAt (methodAt (programIn t) (a .m)) (a .n) .op)) (nodeAt (methodAt (programIn t) (a .m)) (a .n) .names) (a .set)
-    = of .under ∙ ap (λ (x : Node). maskSet (x .op) (firstName (x .names)) (a .set)) node ∙ under-known t (given .0 .0) (a .m) (a .first) (given .0 .1) (a .n) (given .1 .0 .0) (a .set) in
-    let inside : c .parts-of .result .under < entryCount (programIn t) (a .m)
-    = subst (λ (S : ℕ). S < entryCount (programIn t) (a .m)) (sym under) (under-below t (given .0 .0) (a .m) (a .first) (given .0 .1) (a .n) (given .1 .0 .0) (a .set) (given .1 .0 .1)) in
-    (given .1 .1 .size, omega (arith, inside, sets-few t (given .0 .0) (a .m) (a .first) (given .0 .1)))
+    let r = c .parts-of in
+    (given .1 .1 .size, under-few (now (a .tables)) (given .0 .0) (a .m) (a .first) (given .0 .1) (a .n) (given .1 .0 .0) (tablesIn (now (a .grades))) (a .set) (given .1 .0 .1) (r .result) (r .ensures))
 
 child-grade-requires-2 : tie.Need-child-grade-requires-2
 child-grade-requires-2 c κs =
     let a = c .before .before .before .before .before .args in
     let given = c .before .before .before .before .before .pre in
-    let t = now (a .tables) in
-    let node = node-known t (given .0 .0) (a .m) (a .first) (given .0 .1) (a .n) (given .1 .0 .0) in
-    let of = c .before .parts-of .ensures in
-    let under : c .before .parts-of .result .under ≡ childSet (opOf (nodeAt (methodAt (programIn t) (a .m)) (a .n) .op)) (nodeAt (methodAt (programIn t) (a .m)) (a .n) .names) (a .set)
-    = of .under ∙ ap (λ (x : Node). maskSet (x .op) (firstName (x .names)) (a .set)) node ∙ under-known t (given .0 .0) (a .m) (a .first) (given .0 .1) (a .n) (given .1 .0 .0) (a .set) in
-    let inside : c .before .parts-of .result .under < entryCount (programIn t) (a .m)
-    = subst (λ (S : ℕ). S < entryCount (programIn t) (a .m)) (sym under) (under-below t (given .0 .0) (a .m) (a .first) (given .0 .1) (a .n) (given .1 .0 .0) (a .set) (given .1 .0 .1)) in
-    (given .1 .1 .size, omega (arith, inside, sets-few t (given .0 .0) (a .m) (a .first) (given .0 .1)))
+    let r = c .before .parts-of in
+    (given .1 .1 .size, under-few (now (a .tables)) (given .0 .0) (a .m) (a .first) (given .0 .1) (a .n) (given .1 .0 .0) (tablesIn (now (a .grades))) (a .set) (given .1 .0 .1) (r .result) (r .ensures))
 
 child-grade-requires-3 : tie.Need-child-grade-requires-3
 child-grade-requires-3 c κs =
     let a = c .before .before .before .before .before .before .args in
     let given = c .before .before .before .before .before .before .pre in
-    let t = now (a .tables) in
-    let node = node-known t (given .0 .0) (a .m) (a .first) (given .0 .1) (a .n) (given .1 .0 .0) in
-    let of = c .before .before .parts-of .ensures in
-    let under : c .before .before .parts-of .result .under ≡ childSet (opOf (nodeAt (methodAt (programIn t) (a .m)) (a .n) .op)) (nodeAt (methodAt (programIn t) (a .m)) (a .n) .names) (a .set)
-    = of .under ∙ ap (λ (x : Node). maskSet (x .op) (firstName (x .names)) (a .set)) node ∙ under-known t (given .0 .0) (a .m) (a .first) (given .0 .1) (a .n) (given .1 .0 .0) (a .set) in
-    let inside : c .before .before .parts-of .result .under < entryCount (programIn t) (a .m)
-    = subst (λ (S : ℕ). S < entryCount (programIn t) (a .m)) (sym under) (under-below t (given .0 .0) (a .m) (a .first) (given .0 .1) (a .n) (given .1 .0 .0) (a .set) (given .1 .0 .1)) in
-    (given .1 .1 .size, omega (arith, inside, sets-few t (given .0 .0) (a .m) (a .first) (given .0 .1)))
+    let r = c .before .before .parts-of in
+    (given .1 .1 .size, under-few (now (a .tables)) (given .0 .0) (a .m) (a .first) (given .0 .1) (a .n) (given .1 .0 .0) (tablesIn (now (a .grades))) (a .set) (given .1 .0 .1) (r .result) (r .ensures))
 
 combined-requires : tie.Need-combined-requires
 combined-requires c κs = search needs
@@ -76,13 +56,11 @@ returns c =
     let t = now (a .tables) in
     let node = node-known t (given .0 .0) (a .m) (a .first) (given .0 .1) (a .n) (given .1 .0 .0) in
     let of = c .before .before .before .before .parts-of .ensures in
-    let under : c .before .before .before .before .parts-of .result .under ≡ childSet (opOf (nodeAt (methodAt (programIn t) (a .m)) (a .n) .op)) (nodeAt (methodAt (programIn t) (a .m)) (a .n) .names) (a .set)
-    = of .under ∙ ap (λ (x : Node). maskSet (x .op) (firstName (x .names)) (a .set)) node ∙ under-known t (given .0 .0) (a .m) (a .first) (given .0 .1) (a .n) (given .1 .0 .0) (a .set) in
-    let inside : c .before .before .before .before .parts-of .result .under < entryCount (programIn t) (a .m)
-    = subst (λ (S : ℕ). S < entryCount (programIn t) (a .m)) (sym under) (under-below t (given .0 .0) (a .m) (a .first) (given .0 .1) (a .n) (given .1 .0 .0) (a .set) (given .1 .0 .1)) in
     let g = tablesIn (now (a .grades)) in
     let r = c .before .before .before .before .parts-of .result in
     let here = nodeAt (methodAt (programIn t) (a .m)) (a .n) in
+    let under = under-is t (given .0 .0) (a .m) (a .first) (given .0 .1) (a .n) (given .1 .0 .0) g (a .set) (given .1 .0 .1) r of in
+    let inside = under-inside t (given .0 .0) (a .m) (a .first) (given .0 .1) (a .n) (given .1 .0 .0) g (a .set) (given .1 .0 .1) r of in
     let graded = child-known t (given .0 .0) (a .m) (a .first) (given .0 .1) (a .n) (given .1 .0 .0) g (now (a .lower)) (given .1 .1) in
     let one : (i child v : ℕ) → child ≡ childAt here i → v ≡ childGrade (now (a .lower)) child (r .under)
     → v ≡ below (programIn t) g (nodeAt (methodAt (programIn t) (a .m))) (a .n) child (r .under)

@@ -4,7 +4,6 @@ use mathlib.Core.Path.{subst}
 use borrow.Author.Needs.{needs}
 use Prim.Native.Nat.{ℕ, _≤_}
 use Rattle.explainer.specs.Code.Picks.{same, twice, nothing}
-use borrow.Author.Needs.{needs}
 use Rattle.explainer.proofs.picks.picked_part.Statement.{statement}
 use Rattle.explainer.proofs.picks.picked_part.Tie as tie
 

@@ -11,7 +11,6 @@ use Rattle.reasons.specs.Laws.Ends.{some-nodes}
 use Rattle.solver.specs.Flat.{programIn}
 use Rattle.solver.specs.Laws.Views.{method-in, method-count}
 use Rattle.explainer.specs.Laws.Places.{rises-size, methods-few, root-number, set-few, root-found, root-in, grade-few, round-found}
-use borrow.Author.Needs.{needs}
 use Rattle.explainer.proofs.places.root_place.Statement.{statement}
 use Rattle.explainer.proofs.places.root_place.Tie as tie
 
@@ -27,8 +26,6 @@ sub-t8 c =
     let t = now (a .tables) in
     let ready = c .before .before .before .before .pre .0 in
     let been = c .before .before .before .before .pre .1 in
-    let few = set-few t (now (a .rises)) ready (a .m) (a .set) (been .entry) in
-    let small = methods-few t (now (a .rises)) ready (a .m) (been .entry .method) in
     let some = some-nodes (programIn t) (ready .read .wellFormed) (a .m) (been .entry .method) in
     let read : c .node-count .result ≡ length (methodAt (programIn t) (a .m) .nodes) = c .node-count .ensures .is ∙ sym (ap (λ (x : Method). length (x .nodes)) (method-in t (a .m) (omega (arith, method-count t, been .entry .method)))) in
     omega arith
@@ -40,7 +37,6 @@ cast-t9 c =
     let ready = c .before .before .before .before .pre .0 in
     let been = c .before .before .before .before .pre .1 in
     let few = set-few t (now (a .rises)) ready (a .m) (a .set) (been .entry) in
-    let small = methods-few t (now (a .rises)) ready (a .m) (been .entry .method) in
     omega arith
 
 mul-first-round : tie.Need-mul-first-round
@@ -49,7 +45,6 @@ mul-first-round c =
     let t = now (a .tables) in
     let ready = c .before .before .before .before .pre .0 in
     let been = c .before .before .before .before .pre .1 in
-    let few = set-few t (now (a .rises)) ready (a .m) (a .set) (been .entry) in
     let small = methods-few t (now (a .rises)) ready (a .m) (been .entry .method) in
     omega arith
 
@@ -79,8 +74,6 @@ returns c =
     let t = now (a .tables) in
     let ready = c .before .before .before .before .before .pre .0 in
     let been = c .before .before .before .before .before .pre .1 in
-    let few = set-few t (now (a .rises)) ready (a .m) (a .set) (been .entry) in
-    let small = methods-few t (now (a .rises)) ready (a .m) (been .entry .method) in
     let node = root-number t (now (a .rises)) ready (a .m) (c .before .node-count .result) (been .entry .method) (c .before .node-count .ensures .is) in
     let round = c .first-round .ensures ∙ round-found t (now (a .rises)) ready (a .m) (a .set) (a .grade) been in (
       root-found t (now (a .rises)) ready (a .m) (a .set) (been .entry) (c .before .before .first-frame .result) (c .before .node-count .result - 1) (c .first-round .result) (c .before .before .first-frame .ensures) node (a .grade) round,

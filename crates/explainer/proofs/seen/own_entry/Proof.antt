@@ -14,7 +14,6 @@ use Rattle.solver.specs.Laws.Views.{method-count}
 use Rattle.explainer.specs.Code.Callee.{Best}
 use Rattle.explainer.specs.Code.Places.{placeOf}
 use Rattle.explainer.specs.Laws.Places.{node-few, node-here, called-few}
-use borrow.Author.Needs.{needs}
 use Rattle.explainer.proofs.seen.own_entry.Statement.{statement}
 use Rattle.explainer.proofs.seen.own_entry.Tie as tie
 

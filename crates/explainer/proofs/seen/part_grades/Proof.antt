@@ -6,7 +6,6 @@ use borrow.Author.Needs.{needs}
 use mathlib.Core.List.{[], _∷_}
 use lib.ListN.{length-set}
 use lib.Seq.{getD-set-same, getD-set-other}
-use borrow.Author.Needs.{needs}
 use Rattle.explainer.proofs.seen.part_grades.Statement.{statement}
 use Rattle.explainer.proofs.seen.part_grades.Tie as tie
 

@@ -8,11 +8,10 @@ use Prim.Native.Nat.{ℕ, _+_}
 use mathlib.Core.List.{[]}
 use Rattle.meaning.specs.Meaning.{opOf}
 use Rattle.solver.specs.Flat.{tablesIn}
-use Rattle.explainer.specs.Laws.Lower.{sets-few}
+use Rattle.explainer.specs.Laws.Lower.{sets-few, under-few}
 use Rattle.explainer.specs.Laws.Places.{node-few}
 use Rattle.explainer.specs.Laws.Seen.{own-few}
-use Rattle.explainer.specs.Laws.See.{listed-few, under-few, seen-at}
-use borrow.Author.Needs.{needs}
+use Rattle.explainer.specs.Laws.See.{listed-few, seen-at}
 use Rattle.explainer.proofs.seen.see.Statement.{statement}
 use Rattle.explainer.proofs.seen.see.Tie as tie
 
@@ -33,11 +32,8 @@ parts-of-requires c κs = search needs
 
 own-entry-requires : tie.Need-own-entry-requires
 own-entry-requires c κs =
-    let a = c .before .before .before .before .before .before .args in
-    let t = now (a .tables) in
     let ready = c .before .before .before .before .before .before .pre .0 .0 in
     let placed = c .before .before .before .before .before .before .pre .0 .1 in
-    let few = node-few t (now (a .rises)) ready (a .at) placed in
     ((ready, placed), c .parts-of .ensures .op)
 
 children-listed-requires : tie.Need-children-listed-requires
@@ -56,8 +52,7 @@ part-grades-requires c κs =
     let t = now (a .tables) in
     let ready = c .before .before .before .before .before .before .before .before .before .pre .0 .0 in
     let placed = c .before .before .before .before .before .before .before .before .before .pre .0 .1 in
-    let few = node-few t (now (a .rises)) ready (a .at) placed in
-    (c .before .before .before .before .before .before .before .before .before .pre .1 .size, under-few t (now (a .rises)) ready (a .at) placed (tablesIn []) (c .before .before .before .parts-of .result) (c .before .before .before .parts-of .ensures), omega (arith, c .before .children-listed .ensures, listed-few (c .before .before .before .parts-of .result .op)))
+    (c .before .before .before .before .before .before .before .before .before .pre .1 .size, under-few t (ready .read) (a .at .method) (a .at .first) (placed .first) (a .at .node) (placed .fits .node) (tablesIn []) (a .at .set) (placed .fits .set) (c .before .before .before .parts-of .result) (c .before .before .before .parts-of .ensures), omega (arith, c .before .children-listed .ensures, listed-few (c .before .before .before .parts-of .result .op)))
 
 mul-t14 : tie.Need-mul-t14
 mul-t14 c =

@@ -12,7 +12,6 @@ use Rattle.reasons.specs.Steps.{rootPlace, callTurn}
 use Rattle.solver.specs.Flat.{programIn}
 use Rattle.solver.specs.Laws.Flat.{fixed-declared}
 use Rattle.explainer.specs.Laws.Turns.{ended, went}
-use borrow.Author.Needs.{needs}
 use Rattle.explainer.proofs.turns.call_turn.Statement.{statement}
 use Rattle.explainer.proofs.turns.call_turn.Tie as tie
 

@@ -16,7 +16,6 @@ use Rattle.solver.specs.Laws.Views.{method-count}
 use Rattle.explainer.specs.Code.Places.{placeOf, HasBeen, TurnOf}
 use Rattle.explainer.specs.Laws.Places.{node-few, node-here, called-few}
 use Rattle.explainer.specs.Laws.Turns.{own-access, ended, callee-been}
-use borrow.Author.Needs.{needs}
 use Rattle.explainer.proofs.turns.own_turn.Statement.{statement}
 use Rattle.explainer.proofs.turns.own_turn.Tie as tie
 

@@ -10,7 +10,6 @@ use Rattle.reasons.specs.Steps.{Place, Pick, ends, goesOn, endRule, turnBy, tur
 use Rattle.solver.specs.Flat.{programIn}
 use Rattle.explainer.specs.Code.Places.{placeOf, TurnOf}
 use Rattle.explainer.specs.Laws.Turns.{child-picked, own-picked, none-picked, added-few, ended, went}
-use borrow.Author.Needs.{needs}
 use Rattle.explainer.proofs.turns.turn.Statement.{statement}
 use Rattle.explainer.proofs.turns.turn.Tie as tie
 

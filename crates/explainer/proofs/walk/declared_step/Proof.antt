@@ -11,7 +11,6 @@ use Rattle.reasons.specs.Steps.{declaredStep}
 use Rattle.reasons.specs.Laws.Ends.{root-below}
 use Rattle.solver.specs.Flat.{programIn}
 use Rattle.solver.specs.Laws.Views.{method-in, method-count}
-use borrow.Author.Needs.{needs}
 use Rattle.explainer.proofs.walk.declared_step.Statement.{statement}
 use Rattle.explainer.proofs.walk.declared_step.Tie as tie
 

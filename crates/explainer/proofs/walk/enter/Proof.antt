@@ -12,7 +12,6 @@ use Rattle.solver.specs.Flat.{programIn, tablesIn}
 use Rattle.explainer.specs.Code.Before.{tablesAt}
 use Rattle.explainer.specs.Code.Lower.{Lower}
 use Rattle.explainer.specs.Laws.Before.{tables-known}
-use borrow.Author.Needs.{needs}
 use Rattle.explainer.proofs.walk.enter.Statement.{statement}
 use Rattle.explainer.proofs.walk.enter.Tie as tie
 

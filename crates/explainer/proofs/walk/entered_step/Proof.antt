@@ -3,7 +3,6 @@
 use mathlib.Core.Path.{sym, subst}
 use borrow.Author.Needs.{needs}
 use lib.Dec.{T}
-use borrow.Author.Needs.{needs}
 use Rattle.explainer.proofs.walk.entered_step.Statement.{statement}
 use Rattle.explainer.proofs.walk.entered_step.Tie as tie
 

@@ -3,7 +3,6 @@
 use borrow.Author.Needs.{needs}
 use denote.Ref.{now}
 use Rattle.explainer.specs.Laws.Walk.{given-asked, given-step, lower-stays}
-use borrow.Author.Needs.{needs}
 use Rattle.explainer.proofs.walk.give.Statement.{statement}
 use Rattle.explainer.proofs.walk.give.Tie as tie
 

@@ -7,7 +7,6 @@ use Rattle.reasons.specs.Steps.{stepAt}
 use Rattle.solver.specs.Laws.Rounds.{rounds-few}
 use Rattle.explainer.specs.Laws.Places.{methods-few, node-few}
 use Rattle.explainer.specs.Laws.Walk.{placed-next}
-use borrow.Author.Needs.{needs}
 use Rattle.explainer.proofs.walk.step_at.Statement.{statement}
 use Rattle.explainer.proofs.walk.step_at.Tie as tie
 

@@ -20,7 +20,6 @@ use Rattle.solver.specs.Laws.Rounds.{lowest-read}
 use Rattle.solver.specs.Laws.Views.{method-count}
 use Rattle.solver.specs.Laws.Room.{room-fits}
 use mathlib.Core.List.{List}
-use borrow.Author.Needs.{needs}
 use Rattle.solver.proofs.rises.solve_rises.Statement.{statement}
 use Rattle.solver.proofs.rises.solve_rises.Tie as tie
 
