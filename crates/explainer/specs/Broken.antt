@@ -2,11 +2,11 @@
 -- declaration it is that of the body's grade over the lowest tables, else that of the entry's, which is in the lowest tables what it is. A text with any
 -- other outcome has none.
 -- Assumes nothing.
-use Prim.Native.Nat.{ℕ, _*_, _/_}
+use Prim.Native.Nat.{ℕ, _/_}
 use mathlib.Core.Bool.{cond}
-use mathlib.Core.List.{List, [], _++_, map}
+use mathlib.Core.List.{List, [], map}
 use lib.Dec.{eqb, leb}
-use lib.ListN.{length, drop}
+use lib.ListN.{length}
 use Rattle.frames.specs.Layout.{answerLength}
 use Rattle.frames.specs.Program.{Program}
 use Rattle.meaning.specs.Lowest.{isEntry}
@@ -16,7 +16,7 @@ use Rattle.checker.specs.Grading.{programRead, verdictOf}
 use Rattle.checker.specs.declared.Verdict.{Verdict}
 use Rattle.checker.specs.declared.Verdict.the-variants as Verdict
 use Rattle.explainer.specs.declared.walk.Step.{Step}
-use Rattle.explainer.specs.Explain.{stepOf, stepsOf, bytesOf}
+use Rattle.explainer.specs.Explain.{stepOf, stepsOf, bytesOver}
 
 -- the method whose grade a constraint is about: a fork's constraint is about the method that it starts
 abbrev pub aboutMethod : Program → (m kind node : ℕ) → ℕ
@@ -44,5 +44,5 @@ unfoldable pub bytesBroken : List ℕ → (old : List ℕ) → List ℕ
 bytesBroken text old =
     cond
     (leb (length (brokenSteps text)) (length old / 8))
-    (bytesOf (brokenSteps text) ++ drop (8 * length (brokenSteps text)) old)
+    (bytesOver (brokenSteps text) old)
     old

@@ -50,20 +50,24 @@ reasonByVerdict (Verdict.Broken method kind node set) p m H room = Broken method
 unfoldable pub reasonOf : List ℕ → (m H room : ℕ) → Reason
 reasonOf text m H room = reasonByVerdict (verdictOf text answerLength) (programRead text) m H room
 
--- the lent list: the steps at its front, if they are explained; "the list is then untouched"
-abbrev pub listBy : Reason → (steps old : List Step) → List Step
-listBy (Explained count) steps old = steps ++ drop (length steps) old
-listBy Overlong steps old = old
-listBy (Malformed line) steps old = old
-listBy (Misplaced line) steps old = old
-listBy (OutOfRange line) steps old = old
-listBy (Unlinked line) steps old = old
-listBy (Broken method kind node set) steps old = old
-listBy NoEntry steps old = old
-listBy (TooShort count) steps old = old
+-- what is lent, as it is left: with the new front if the steps are explained; "the list is then untouched"
+abbrev pub leftBy : {A : Type 0} → Reason → (new old : List A) → List A
+leftBy (Explained count) new old = new
+leftBy Overlong new old = old
+leftBy (Malformed line) new old = old
+leftBy (Misplaced line) new old = old
+leftBy (OutOfRange line) new old = old
+leftBy (Unlinked line) new old = old
+leftBy (Broken method kind node set) new old = old
+leftBy NoEntry new old = old
+leftBy (TooShort count) new old = old
+
+-- the steps at the front of a list, and the rest as it was
+abbrev pub stepsOver : (steps old : List Step) → List Step
+stepsOver steps old = steps ++ drop (length steps) old
 
 unfoldable pub listOf : List ℕ → (m H : ℕ) → (old : List Step) → List Step
-listOf text m H old = listBy (reasonOf text m H (length old)) (stepsOf (programRead text) m H) old
+listOf text m H old = leftBy (reasonOf text m H (length old)) (stepsOver (stepsOf (programRead text) m H) old) old
 
 -- ---- the same as bytes, eight a step: method, node, held set, round, grade, rule; node and round take two bytes each, the high one first
 
@@ -74,21 +78,13 @@ stepBytes s =
 unfoldable pub bytesOf : List Step → List ℕ
 bytesOf steps = together stepBytes steps
 
--- the lent bytes: those of the steps at their front, if the steps are explained
-abbrev pub bytesBy : Reason → (steps : List Step) (old : List ℕ) → List ℕ
-bytesBy (Explained count) steps old = bytesOf steps ++ drop (8 * length steps) old
-bytesBy Overlong steps old = old
-bytesBy (Malformed line) steps old = old
-bytesBy (Misplaced line) steps old = old
-bytesBy (OutOfRange line) steps old = old
-bytesBy (Unlinked line) steps old = old
-bytesBy (Broken method kind node set) steps old = old
-bytesBy NoEntry steps old = old
-bytesBy (TooShort count) steps old = old
+-- those of the steps at the front of other bytes, and the rest as it was
+abbrev pub bytesOver : (steps : List Step) (old : List ℕ) → List ℕ
+bytesOver steps old = bytesOf steps ++ drop (8 * length steps) old
 
 -- of a text, and the bytes as they were, which have room for an eighth as many steps
 unfoldable pub bytesAfter : List ℕ → (m H : ℕ) → (old : List ℕ) → List ℕ
-bytesAfter text m H old = bytesBy (reasonOf text m H (length old / 8)) (stepsOf (programRead text) m H) old
+bytesAfter text m H old = leftBy (reasonOf text m H (length old / 8)) (bytesOver (stepsOf (programRead text) m H) old) old
 
 -- ---- the documents' numbers for each case; those that don't apply are 0
 

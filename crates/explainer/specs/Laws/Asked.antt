@@ -1,14 +1,14 @@
 -- What is asked, as the code finds it, is what is promised.
 -- Assumes nothing.
-use Prim.Native.Nat.{ℕ, suc, _+_, _*_, _/_, _≤_, _<_}
+use Prim.Native.Nat.{ℕ, suc, _/_, _≤_, _<_}
 use mathlib.Core.Bool.{Bool, true, false, not, cond, _&&_}
-use mathlib.Core.List.{List, [], _∷_, _++_, map}
+use mathlib.Core.List.{List, [], _∷_, map}
 use mathlib.Core.Path.{_≡_, refl, sym, ap, _∙_, subst}
 use native.Mathlib.Omega.{arith}
 use borrow.Author.Tests.{lt-ltb, le-ltb, le-leb, lt-leb}
 use native.Mathlib.Decide.{decLt}
 use lib.Dec.{T, leb, ltb, leb→le}
-use lib.ListN.{length, drop}
+use lib.ListN.{length}
 use Rattle.frames.specs.Layout.{answerLength}
 use Rattle.frames.specs.Frames.{methodsIn}
 use Rattle.frames.specs.Tables.{cell}
@@ -46,7 +46,7 @@ use Rattle.explainer.specs.declared.asked.Found.{Found}
 use Rattle.explainer.specs.declared.places.Place.{Place}
 use Rattle.explainer.specs.declared.walk.Walk.{Walk}
 use Rattle.explainer.specs.declared.walk.Step.{Step}
-use Rattle.explainer.specs.Explain.{stepOf, stepsOf, reasonBy, reasonByVerdict, reasonOf, bytesOf, bytesBy, bytesAfter, numbersOf}
+use Rattle.explainer.specs.Explain.{stepOf, stepsOf, reasonBy, reasonByVerdict, reasonOf, leftBy, bytesOver, bytesAfter, numbersOf}
 use Rattle.explainer.specs.Code.Lower.{Read, Ready, lowerLength}
 use Rattle.explainer.specs.Code.Places.{placeOf, PlaceIn, HasBeen}
 use Rattle.explainer.specs.Code.Walk.{chainOf, Entered}
@@ -302,19 +302,19 @@ module _ (text : List ℕ) (m H room : ℕ) (r : Asked) (asked : AskedOf text m 
   pub bytes-put : (from to : List ℕ) → room ≡ length from / 8 → ChainPut (r .count) (chainOf (r .tables) (r .walk .at)) from to → to ≡ bytesAfter text m H from
   unfolding bytesAfter
   bytes-put from to rooms put =
-      go (reasonOf text m H room) refl ∙ ap (λ (n : ℕ). bytesBy (reasonOf text m H n) (stepsOf (programRead text) m H) from) rooms
+      go (reasonOf text m H room) refl ∙ ap (λ (n : ℕ). leftBy (reasonOf text m H n) (bytesOver (stepsOf (programRead text) m H) from) from) rooms
     where
       untouched : countOf (reasonOf text m H room) ≡ 0 → to ≡ from
       untouched z = nothing-put (r .count) (chainOf (r .tables) (r .walk .at)) from to put (count-is ∙ z)
 
-      go : (why : Reason) → reasonOf text m H room ≡ why → to ≡ bytesBy (reasonOf text m H room) (stepsOf (programRead text) m H) from
+      go : (why : Reason) → reasonOf text m H room ≡ why → to ≡ leftBy (reasonOf text m H room) (bytesOver (stepsOf (programRead text) m H) from) from
       go (Explained count) e =
-          by (whole-reason text m H room count e) (decLt 0 count) ∙ ap (λ (w : Reason). bytesBy w (stepsOf (programRead text) m H) from) (sym e)
+          by (whole-reason text m H room count e) (decLt 0 count) ∙ ap (λ (w : Reason). leftBy w (bytesOver (stepsOf (programRead text) m H) from) from) (sym e)
         where
           counts : r .count ≡ count
           counts = count-is ∙ ap countOf e
 
-          by : Whole (programRead text) m H room count → Dec (0 < count) → to ≡ bytesOf (stepsOf (programRead text) m H) ++ drop (8 * length (stepsOf (programRead text) m H)) from
+          by : Whole (programRead text) m H room count → Dec (0 < count) → to ≡ bytesOver (stepsOf (programRead text) m H) from
           by whole (yes h) =
               let some : 0 < r .count = omega (arith, counts) in
               chain-all (r .count) (stepsOf (programRead text) m H) from to (subst (λ (l : List Step). ChainPut (r .count) l from to) (chain-steps some) put)
@@ -322,11 +322,11 @@ module _ (text : List ℕ) (m H room : ℕ) (r : Asked) (asked : AskedOf text m 
           by whole (no h) =
               let none : length (stepsOf (programRead text) m H) ≡ 0 = omega (arith, whole .all) in
               nothing-put (r .count) (chainOf (r .tables) (r .walk .at)) from to put (omega (arith, counts)) ∙ sym (no-bytes (stepsOf (programRead text) m H) from none)
-      go Overlong e = untouched (ap countOf e) ∙ ap (λ (w : Reason). bytesBy w (stepsOf (programRead text) m H) from) (sym e)
-      go (Malformed line) e = untouched (ap countOf e) ∙ ap (λ (w : Reason). bytesBy w (stepsOf (programRead text) m H) from) (sym e)
-      go (Misplaced line) e = untouched (ap countOf e) ∙ ap (λ (w : Reason). bytesBy w (stepsOf (programRead text) m H) from) (sym e)
-      go (OutOfRange line) e = untouched (ap countOf e) ∙ ap (λ (w : Reason). bytesBy w (stepsOf (programRead text) m H) from) (sym e)
-      go (Unlinked line) e = untouched (ap countOf e) ∙ ap (λ (w : Reason). bytesBy w (stepsOf (programRead text) m H) from) (sym e)
-      go (Broken a b c d) e = untouched (ap countOf e) ∙ ap (λ (w : Reason). bytesBy w (stepsOf (programRead text) m H) from) (sym e)
-      go NoEntry e = untouched (ap countOf e) ∙ ap (λ (w : Reason). bytesBy w (stepsOf (programRead text) m H) from) (sym e)
-      go (TooShort count) e = untouched (ap countOf e) ∙ ap (λ (w : Reason). bytesBy w (stepsOf (programRead text) m H) from) (sym e)
+      go Overlong e = untouched (ap countOf e) ∙ ap (λ (w : Reason). leftBy w (bytesOver (stepsOf (programRead text) m H) from) from) (sym e)
+      go (Malformed line) e = untouched (ap countOf e) ∙ ap (λ (w : Reason). leftBy w (bytesOver (stepsOf (programRead text) m H) from) from) (sym e)
+      go (Misplaced line) e = untouched (ap countOf e) ∙ ap (λ (w : Reason). leftBy w (bytesOver (stepsOf (programRead text) m H) from) from) (sym e)
+      go (OutOfRange line) e = untouched (ap countOf e) ∙ ap (λ (w : Reason). leftBy w (bytesOver (stepsOf (programRead text) m H) from) from) (sym e)
+      go (Unlinked line) e = untouched (ap countOf e) ∙ ap (λ (w : Reason). leftBy w (bytesOver (stepsOf (programRead text) m H) from) from) (sym e)
+      go (Broken a b c d) e = untouched (ap countOf e) ∙ ap (λ (w : Reason). leftBy w (bytesOver (stepsOf (programRead text) m H) from) from) (sym e)
+      go NoEntry e = untouched (ap countOf e) ∙ ap (λ (w : Reason). leftBy w (bytesOver (stepsOf (programRead text) m H) from) from) (sym e)
+      go (TooShort count) e = untouched (ap countOf e) ∙ ap (λ (w : Reason). leftBy w (bytesOver (stepsOf (programRead text) m H) from) from) (sym e)

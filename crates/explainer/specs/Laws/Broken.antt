@@ -1,14 +1,14 @@
 -- The reason of a refused text, as the code finds it, is what is promised.
 -- Assumes nothing.
-use Prim.Native.Nat.{ℕ, suc, _*_, _/_, _≤_, _<_}
+use Prim.Native.Nat.{ℕ, suc, _/_, _≤_, _<_}
 use mathlib.Core.Bool.{Bool, true, false, cond}
-use mathlib.Core.List.{List, [], _++_, map}
+use mathlib.Core.List.{List, [], map}
 use mathlib.Core.Path.{_≡_, refl, sym, ap, ap₂, _∙_, subst}
 use native.Mathlib.Omega.{arith}
 use native.Mathlib.Decide.{decLt}
 use borrow.Author.Tests.{le-leb, lt-leb, eq-eqb, ne-eqb}
 use lib.Dec.{eqb}
-use lib.ListN.{length, drop, List·getD-eq-default}
+use lib.ListN.{length, List·getD-eq-default}
 use Rattle.frames.specs.Layout.{answerLength}
 use Rattle.frames.specs.Frames.{methodsIn}
 use Rattle.frames.specs.Tables.{cell, firstFrame}
@@ -34,7 +34,7 @@ use Rattle.checker.specs.declared.Verdict.{Verdict}
 use Rattle.explainer.specs.declared.places.Place.{Place}
 use Rattle.explainer.specs.declared.walk.Walk.{Walk}
 use Rattle.explainer.specs.declared.walk.Step.{Step}
-use Rattle.explainer.specs.Explain.{stepOf, stepsOf, bytesOf}
+use Rattle.explainer.specs.Explain.{stepOf, stepsOf, bytesOver}
 use Rattle.explainer.specs.Broken.{chainAbout, brokenBy, brokenSteps, bytesBroken}
 use Rattle.explainer.specs.Code.Lower.{Ready}
 use Rattle.explainer.specs.Code.Places.{placeOf, PlaceIn}
@@ -148,17 +148,17 @@ module _ (text from : List ℕ) where
   pub no-room : length from / 8 < length (brokenSteps text) → from ≡ bytesBroken text from
   unfolding bytesBroken
   no-room h =
-      sym (ap (λ (b : Bool). cond b (bytesOf (brokenSteps text) ++ drop (8 * length (brokenSteps text)) from) from) (lt-leb (length (brokenSteps text)) (length from / 8) h))
+      sym (ap (λ (b : Bool). cond b (bytesOver (brokenSteps text) from) from) (lt-leb (length (brokenSteps text)) (length from / 8) h))
 
   pub all-put : (t noted : List ℕ) (count : ℕ) (walk : Walk) (to : List ℕ) → GivesAll t noted (brokenSteps text) count walk → count ≤ length from / 8 → ChainPut count (chainOf t (walk .at)) from to
       → to ≡ bytesBroken text from
   unfolding bytesBroken
   all-put t noted count walk to gives h put =
       go (decLt 0 count)
-      ∙ sym (ap (λ (b : Bool). cond b (bytesOf (brokenSteps text) ++ drop (8 * length (brokenSteps text)) from) from)
+      ∙ sym (ap (λ (b : Bool). cond b (bytesOver (brokenSteps text) from) from)
       (le-leb (length (brokenSteps text)) (length from / 8) (subst (λ (n : ℕ). n ≤ length from / 8) (gives .all) h)))
     where
-      go : Dec (0 < count) → to ≡ bytesOf (brokenSteps text) ++ drop (8 * length (brokenSteps text)) from
+      go : Dec (0 < count) → to ≡ bytesOver (brokenSteps text) from
       go (yes l) =
           chain-all count (brokenSteps text) from to (subst (λ (s : List Step). ChainPut count s from to) (gives .along l .chain) put) (gives .all) (omega arith)
       go (no l) =

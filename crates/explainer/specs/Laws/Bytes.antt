@@ -9,7 +9,7 @@ use lib.ListN.{length, getD, drop, set, length-set, length-append, List·getD-ap
 use lib.Seq.{getD-set-same, getD-set-other, ext-getD}
 use Rattle.counting.specs.Counting.{together}
 use Rattle.explainer.specs.declared.walk.Step.{Step}
-use Rattle.explainer.specs.Explain.{stepBytes, bytesOf}
+use Rattle.explainer.specs.Explain.{stepBytes, bytesOf, bytesOver}
 use Rattle.explainer.specs.Code.Chains.{stepNo}
 use Rattle.explainer.specs.Code.Bytes.{PutAt, ChainPut}
 
@@ -82,7 +82,7 @@ getD-rest (suc n) j [] = refl
 getD-rest (suc n) j (x ∷ xs) = let next : suc (n + j) ≡ suc n + j = omega arith in getD-rest n j xs ∙ ap (λ (i : ℕ). getD (x ∷ xs) i 0) next
 
 -- all of a chain put, and the rest as it was
-pub chain-all : (n : ℕ) (chain : List Step) (from to : List ℕ) → ChainPut n chain from to → n ≡ length chain → 8 * n ≤ length from → to ≡ bytesOf chain ++ drop (8 * length chain) from
+pub chain-all : (n : ℕ) (chain : List Step) (from to : List ℕ) → ChainPut n chain from to → n ≡ length chain → 8 * n ≤ length from → to ≡ bytesOver chain from
 unfolding bytesOf
 chain-all n chain from to c e h =
     let total : length (together stepBytes chain ++ drop (8 * length chain) from) ≡ length from
@@ -112,7 +112,7 @@ chain-all n chain from to c e h =
 pub nothing-put : (n : ℕ) (chain : List Step) (from to : List ℕ) → ChainPut n chain from to → n ≡ 0 → to ≡ from
 nothing-put n chain from to c e = ext-getD 0 to from (c .size) (λ j l. c .behind j (omega arith))
 
-pub no-bytes : (steps : List Step) (from : List ℕ) → length steps ≡ 0 → bytesOf steps ++ drop (8 * length steps) from ≡ from
+pub no-bytes : (steps : List Step) (from : List ℕ) → length steps ≡ 0 → bytesOver steps from ≡ from
 unfolding bytesOf
 no-bytes [] from e = refl
 no-bytes (s ∷ steps) from e = absurd (omega arith)

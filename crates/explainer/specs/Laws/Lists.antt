@@ -17,7 +17,7 @@ use Rattle.checker.specs.declared.Verdict.the-variants as Verdict
 use Rattle.explainer.specs.declared.asked.Reason.{Reason}
 use Rattle.explainer.specs.declared.asked.Reason.the-variants.{Explained, NoEntry, TooShort}
 use Rattle.explainer.specs.declared.walk.Step.{Step}
-use Rattle.explainer.specs.Explain.{stepsOf, reasonBy, reasonByVerdict, reasonOf, listBy, listOf}
+use Rattle.explainer.specs.Explain.{stepsOf, reasonBy, reasonByVerdict, reasonOf, leftBy, stepsOver, listOf}
 use Rattle.explainer.specs.Code.Asked.{countOf}
 
 -- the front of a list is that of another if they are the same where there is any
@@ -34,13 +34,13 @@ abbrev fronted : ℕ → (steps old : List Step) → List Step
 fronted count steps old = take count steps ++ drop count old
 
 answer-fronted : (entry enough : Bool) (steps old : List Step)
-    → listBy (answer entry enough (length steps)) steps old ≡ fronted (countOf (answer entry enough (length steps))) steps old
+    → leftBy (answer entry enough (length steps)) (stepsOver steps old) old ≡ fronted (countOf (answer entry enough (length steps))) steps old
 answer-fronted true true steps old = ap (λ (cs : List Step). cs ++ drop (length steps) old) (sym (take-length steps))
 answer-fronted true false steps old = refl
 answer-fronted false enough steps old = refl
 
 verdict-fronted : (v : Verdict) (p : Program) (m H room : ℕ) (old : List Step)
-    → listBy (reasonByVerdict v p m H room) (stepsOf p m H) old ≡ fronted (countOf (reasonByVerdict v p m H room)) (stepsOf p m H) old
+    → leftBy (reasonByVerdict v p m H room) (stepsOver (stepsOf p m H) old) old ≡ fronted (countOf (reasonByVerdict v p m H room)) (stepsOf p m H) old
 unfolding reasonBy
 verdict-fronted (Verdict.Accepted methods rounds) p m H room old = answer-fronted (isEntry p m H) (leb (length (stepsOf p m H)) room) (stepsOf p m H) old
 verdict-fronted Verdict.WrongLength p m H room old = refl
