@@ -1,7 +1,7 @@
 // What is asked: whether there is a reason, how many steps it has, and where it starts.
 use crate::before::entry_before;
 use crate::lower::LOWER_LENGTH;
-use crate::places::Place;
+use crate::places::at_root;
 use crate::places::root_place;
 use crate::walk::Walk;
 use crate::walk::chain_length;
@@ -85,13 +85,7 @@ pub(crate) fn first_walk<'a>(
     ensures { λ r. ⌜ StartsAt (now (tables .entry)) (now (rises .entry)) method set r ⌝ }
 {
     if frames::declared(tables, method) {
-        let at = Place {
-            method,
-            first: 0,
-            node: frames::node_count(tables, method) - 1,
-            set: set as u8,
-            round: 0,
-        };
+        let at = at_root(tables, method, set, 0);
         return Walk { at, entered: false };
     }
     let grade = entry_before(rises, GRADES * method + set, last + 1);

@@ -6,6 +6,7 @@ use crate::bytes::STEP_BYTES;
 use crate::bytes::put_chain;
 use crate::lower::LOWER_LENGTH;
 use crate::places::Place;
+use crate::places::at_root;
 use crate::walk::Walk;
 use crate::walk::chain_length;
 use crate::walk::nowhere;
@@ -72,13 +73,7 @@ fn body_place(tables: &[u8], last: usize, method: usize, set: usize) -> Place
     requires { ⌜ Read (now tables) × Entry (programIn (now tables)) method set × (last ≡ rounds (programIn (now tables))) ⌝ }
     ensures { λ r. ⌜ (placeOf r ≡ bodyPlace (programIn (now (tables .entry))) method set) × PlaceIn (now (tables .entry)) r ⌝ }
 {
-    Place {
-        method,
-        first: frames::first_frame(tables, method),
-        node: frames::node_count(tables, method) - 1,
-        set: set as u8,
-        round: last + 1,
-    }
+    at_root(tables, method, set, last + 1)
 }
 
 // Kind 1 is about a declared method's body, the others about an entry.

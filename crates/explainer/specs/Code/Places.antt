@@ -7,7 +7,7 @@ use mathlib.Core.Path.{_≡_}
 use lib.Dec.{T}
 use lib.ListN.{length, getD}
 use Rattle.frames.specs.Program.{Node, Program, methodAt}
-use Rattle.meaning.specs.Meaning.{Op, plainValue, read, write, sequence, choice, loop, synchronised, assertion, call, fork, noOp, opOf, calleeEntry, child, own}
+use Rattle.meaning.specs.Meaning.{Op, plainValue, read, write, sequence, choice, loop, synchronised, assertion, call, fork, noOp, opOf, rootOf, calleeEntry, child, own}
 use Rattle.meaning.specs.Lowest.{entryCount, after, declarations, isDeclared, rounds}
 use Rattle.meaning.specs.Constraints.{Entry}
 use Rattle.reasons.specs.Steps as steps
@@ -31,6 +31,11 @@ placeOf at = record { method = at .method; node = at .node; set = at .set; round
 -- a place that the program has
 pub record PlaceIn (t : List ℕ) (at : Place) : Type 0 where
   pub fits : PlaceFits (programIn t) (placeOf at)
+  pub first : At t (at .method) (at .first)
+
+-- a method's root under a held set, in a round
+pub record AtRoot (t : List ℕ) (m S round : ℕ) (at : Place) : Type 0 where
+  pub place : placeOf at ≡ record { method = m; node = rootOf (methodAt (programIn t) m); set = S; round = round }
   pub first : At t (at .method) (at .first)
 
 -- a grade that an undeclared entry has after some round; const only if it stays so

@@ -48,7 +48,7 @@ use Rattle.explainer.specs.declared.walk.Walk.{Walk}
 use Rattle.explainer.specs.declared.walk.Step.{Step}
 use Rattle.explainer.specs.Explain.{stepOf, stepsOf, reasonBy, reasonByVerdict, reasonOf, leftBy, bytesOver, bytesAfter, numbersOf}
 use Rattle.explainer.specs.Code.Lower.{Read, Ready, lowerLength}
-use Rattle.explainer.specs.Code.Places.{placeOf, PlaceIn, HasBeen}
+use Rattle.explainer.specs.Code.Places.{placeOf, PlaceIn, AtRoot, HasBeen}
 use Rattle.explainer.specs.Code.Walk.{chainOf, Entered}
 use Rattle.explainer.specs.Code.Bytes.{ChainPut}
 use Rattle.explainer.specs.declared.asked.Asked.{Asked}
@@ -96,19 +96,24 @@ module _ (p : Program) (m H room : ℕ) where
 -- ---- where the reason starts
 
 module _ (t noted : List ℕ) (ready : Ready t noted) (m H : ℕ) (entry : Entry (programIn t) m H) where
-  pub starts-declared : (node : ℕ) → isDeclared (programIn t) m ≡ true → node ≡ rootOf (methodAt (programIn t) m)
-      → StartsAt t noted m H (record { at = record { method = m; first = 0; node = node; set = H; round = 0 }; entered = false })
+  pub starts-declared : (at : Place) → isDeclared (programIn t) m ≡ true → AtRoot t m H 0 at → StartsAt t noted m H (record { at = at; entered = false })
   unfolding stepsOf reason
-  starts-declared node d last =
+  starts-declared at d root =
       record {
         going =
             record {
               ready = ready;
-              asking = λ _. record { read = ready .read; entry = entry; root = last };
-              placed = λ n. absurd (n refl);
+              asking = λ _.
+                  record {
+                    read = ready .read;
+                    entry = subst (λ (x : steps.Place). Entry (programIn t) (x .method) (x .set)) (sym (root .place)) entry;
+                    root = subst (λ (x : steps.Place). x .node ≡ rootOf (methodAt (programIn t) (x .method))) (sym (root .place)) refl;
+                  };
+              placed = λ n. absurd (n (ap (λ (x : steps.Place). x .round) (root .place)));
             };
         chain =
-            asked-chain t (record { method = m; first = 0; node = node; set = H; round = 0 }) refl
+            asked-chain t at (ap (λ (x : steps.Place). x .round) (root .place))
+            ∙ ap (λ (x : steps.Place). map stepOf (declaredStep (programIn t) (x .method) (x .set) ∷ [])) (root .place)
             ∙ ap (λ (b : Bool). map stepOf (cond b (declaredStep (programIn t) m H ∷ []) (chainFrom (programIn t) (firstPlace (programIn t) m H)))) (sym d);
         entered = refl;
       }

@@ -11,7 +11,7 @@ use lib.Dec.{eqb}
 use lib.ListN.{length, List·getD-eq-default}
 use Rattle.frames.specs.Layout.{answerLength}
 use Rattle.frames.specs.Frames.{methodsIn}
-use Rattle.frames.specs.Tables.{cell, firstFrame}
+use Rattle.frames.specs.Tables.{cell}
 use Rattle.frames.specs.Program.{Node, Method, Program, noMethod, plainNode, methodAt, nodeAt}
 use Rattle.frames.specs.Reading.{readText}
 use Rattle.frames.specs.declared.Checked.{Checked}
@@ -25,7 +25,6 @@ use Rattle.reasons.specs.Steps.{chainFrom, bodyPlace, bodyReason}
 use Rattle.reasons.specs.Laws.Turns.{PlaceFits}
 use Rattle.reasons.specs.Laws.Reason.{body-fits}
 use Rattle.solver.specs.Flat.{programIn}
-use Rattle.solver.specs.Code.Rounds.{At}
 use Rattle.solver.specs.Laws.Views.{method-past}
 use Rattle.checker.specs.Grading.{programRead, byReading}
 use Rattle.checker.specs.Code.Steps.{solvedVerdict}
@@ -37,30 +36,26 @@ use Rattle.explainer.specs.declared.walk.Step.{Step}
 use Rattle.explainer.specs.Explain.{stepOf, stepsOf, bytesOver}
 use Rattle.explainer.specs.Broken.{chainAbout, brokenBy, brokenSteps, bytesBroken}
 use Rattle.explainer.specs.Code.Lower.{Ready}
-use Rattle.explainer.specs.Code.Places.{placeOf, PlaceIn}
+use Rattle.explainer.specs.Code.Places.{placeOf, PlaceIn, AtRoot}
 use Rattle.explainer.specs.Code.Walk.{chainOf}
 use Rattle.explainer.specs.Code.Asked.{Along}
 use Rattle.explainer.specs.Code.Bytes.{ChainPut}
 use Rattle.explainer.specs.declared.broken.Found.{Found}
 use Rattle.explainer.specs.Code.Broken.{GivesAll, FoundBroken, ReadBroken}
-use Rattle.explainer.specs.Laws.Places.{at-first}
 use Rattle.explainer.specs.Laws.Walk.{chain-here, some-round}
 use Rattle.explainer.specs.Laws.Bytes.{chain-all, nothing-put, no-bytes}
 
 -- ---- a method's root in the lowest tables
 
 module _ (t noted : List ℕ) (ready : Ready t noted) (m H : ℕ) (entry : Entry (programIn t) m H) where
-  module _ (first node round : ℕ) (frame : first ≡ firstFrame (cell t) m) (last : node ≡ rootOf (methodAt (programIn t) m)) (e : round ≡ suc (rounds (programIn t))) where
-    pub body-found : placeOf (record { method = m; first = first; node = node; set = H; round = round }) ≡ bodyPlace (programIn t) m H
+  module _ (round : ℕ) (at : Place) (root : AtRoot t m H round at) (e : round ≡ suc (rounds (programIn t))) where
+    pub body-found : placeOf at ≡ bodyPlace (programIn t) m H
     unfolding bodyPlace
-    body-found = λ i. record { method = m; node = last i; set = H; round = e i }
+    body-found = root .place ∙ (λ i. record { method = m; node = rootOf (methodAt (programIn t) m); set = H; round = e i })
 
-    pub body-in : PlaceIn t (record { method = m; first = first; node = node; set = H; round = round })
+    pub body-in : PlaceIn t at
     body-in =
-        record {
-          fits = subst (PlaceFits (programIn t)) (sym body-found) (body-fits (programIn t) (ready .read .wellFormed) m H entry);
-          first = subst (At t m) (sym frame) (at-first t noted ready m (entry .method));
-        }
+        record { fits = subst (PlaceFits (programIn t)) (sym body-found) (body-fits (programIn t) (ready .read .wellFormed) m H entry); first = root .first }
 
   pub along-body : (at : Place) → placeOf at ≡ bodyPlace (programIn t) m H → PlaceIn t at → Along t noted (map stepOf (bodyReason (programIn t) m H)) (record { at = at; entered = false })
   unfolding bodyReason

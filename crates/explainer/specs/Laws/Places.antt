@@ -31,7 +31,7 @@ use Rattle.solver.specs.Laws.Rises.{rises-length}
 use Rattle.explainer.specs.declared.places.Place.{Place}
 use Rattle.explainer.specs.Code.Before.{roundAt}
 use Rattle.explainer.specs.Code.Lower.{Ready}
-use Rattle.explainer.specs.Code.Places.{placeOf, PlaceIn, HasBeen}
+use Rattle.explainer.specs.Code.Places.{placeOf, PlaceIn, AtRoot, HasBeen}
 use Rattle.explainer.specs.Laws.Before.{round-known}
 use Rattle.explainer.specs.Laws.Lower.{nodes-few, node-known}
 
@@ -79,18 +79,22 @@ module _ (t noted : List ℕ) (ready : Ready t noted) where
         omega (arith, entry .set, entry-count t (ready .read .fits) m within, few-entries t (ready .read .fits) m within)
 
     -- a root, found in the tables
-    module _ (first node round : ℕ) (frame : first ≡ firstFrame (cell t) m) (last : node ≡ rootOf (methodAt (programIn t) m)) where
-      pub root-found : (g : ℕ) → round ≡ firstRound (programIn t) m S g
-          → placeOf (record { method = m; first = first; node = node; set = S; round = round }) ≡ rootPlace (programIn t) m S g
-      unfolding rootPlace
-      root-found g e = λ i. record { method = m; node = last i; set = S; round = e i }
+    pub at-root : (first node round : ℕ) → first ≡ firstFrame (cell t) m → node ≡ rootOf (methodAt (programIn t) m)
+        → AtRoot t m S round (record { method = m; first = first; node = node; set = S; round = round })
+    at-root first node round frame last =
+        record {
+          place = λ i. record { method = m; node = last i; set = S; round = round };
+          first = subst (At t m) (sym frame) (at-first m (entry .method));
+        }
 
-      pub root-in : (g : ℕ) → round ≡ firstRound (programIn t) m S g → PlaceIn t (record { method = m; first = first; node = node; set = S; round = round })
-      root-in g e =
-          record {
-            fits = subst (PlaceFits (programIn t)) (sym (root-found g e)) (root-fits (programIn t) (ready .read .wellFormed) m S g entry);
-            first = subst (At t m) (sym frame) (at-first m (entry .method));
-          }
+    module _ (round : ℕ) (at : Place) (root : AtRoot t m S round at) (g : ℕ) (e : round ≡ firstRound (programIn t) m S g) where
+      pub root-found : placeOf at ≡ rootPlace (programIn t) m S g
+      unfolding rootPlace
+      root-found = root .place ∙ (λ i. record { method = m; node = rootOf (methodAt (programIn t) m); set = S; round = e i })
+
+      pub root-in : PlaceIn t at
+      root-in =
+          record { fits = subst (PlaceFits (programIn t)) (sym root-found) (root-fits (programIn t) (ready .read .wellFormed) m S g entry); first = root .first }
 
   pub grade-few : (m S g : ℕ) → HasBeen (programIn t) m S g → g ≤ layout .mostGrade
   grade-few m S g been = omega (arith, been .has, entry-grade (programIn t) (ready .read .wellFormed) (been .round) m S)

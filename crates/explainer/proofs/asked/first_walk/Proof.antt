@@ -9,21 +9,18 @@ use mathlib.Core.Bool.{Bool, true, false, not}
 use mathlib.Core.List.{List}
 use native.Mathlib.Numerals.{add-one}
 use lib.Dec.{T}
-use lib.ListN.{length}
 use Rattle.frames.specs.Layout.{layout}
 use Rattle.frames.specs.Frames.{methodsIn}
 use Rattle.frames.specs.Tables.{cell}
-use Rattle.frames.specs.Program.{Method, methodAt}
 use Rattle.meaning.specs.Lowest.{isDeclared, rounds}
 use Rattle.reasons.specs.Steps.{tablesBefore}
-use Rattle.reasons.specs.Laws.Ends.{some-nodes}
 use Rattle.solver.specs.Flat.{programIn}
-use Rattle.solver.specs.Laws.Views.{method-in, method-count}
+use Rattle.solver.specs.Laws.Views.{method-count}
 use Rattle.solver.specs.Laws.Flat.{fixed-declared}
 use Rattle.solver.specs.Laws.Rounds.{rounds-few}
 use Rattle.explainer.specs.Code.Before.{risenCount}
 use Rattle.explainer.specs.Laws.Before.{entry-known}
-use Rattle.explainer.specs.Laws.Places.{rises-size, methods-few, root-number, set-few}
+use Rattle.explainer.specs.Laws.Places.{rises-size, methods-few, set-few}
 use Rattle.explainer.specs.Laws.Asked.{starts-declared, final-been, starts-undeclared}
 use Rattle.explainer.proofs.asked.first_walk.Statement.{statement}
 use Rattle.explainer.proofs.asked.first_walk.Tie as tie
@@ -31,26 +28,8 @@ use Rattle.explainer.proofs.asked.first_walk.Tie as tie
 declared-requires : tie.Need-declared-requires
 declared-requires c κs = search needs
 
-node-count-requires : tie.Need-node-count-requires
-node-count-requires c κs = search needs
-
-sub-t11 : tie.Need-sub-t11
-sub-t11 c =
-    let a = c .before .before .before .before .before .args in
-    let t = now (a .tables) in
-    let ready = c .before .before .before .before .before .pre .0 in
-    let entry = c .before .before .before .before .before .pre .1 in
-    let some = some-nodes (programIn t) (ready .read .wellFormed) (a .method) (entry .method) in
-    let read : c .node-count .result ≡ length (methodAt (programIn t) (a .method) .nodes) = c .node-count .ensures .is ∙ sym (ap (λ (x : Method). length (x .nodes)) (method-in t (a .method) (omega (arith, method-count t, entry .method)))) in
-    omega arith
-
-cast-t12 : tie.Need-cast-t12
-cast-t12 c =
-    let a = c .before .before .before .before .before .args in
-    let t = now (a .tables) in
-    let ready = c .before .before .before .before .before .pre .0 in
-    let entry = c .before .before .before .before .before .pre .1 in
-    omega (arith, set-few t (now (a .rises)) ready (a .method) (a .set) entry)
+at-root-requires : tie.Need-at-root-requires
+at-root-requires c κs = (c .before .before .before .before .pre .0 .read, c .before .before .before .before .pre .1)
 
 returns : tie.Need-returns
 returns c =
@@ -60,8 +39,7 @@ returns c =
     let entry = c .before .before .before .before .before .pre .1 in
     let within : a .method < methodsIn (cell t) = omega (arith, method-count t, entry .method) in
     let declared : isDeclared (programIn t) (a .method) ≡ true = fixed-declared t (ready .read .fits) (a .method) within ∙ sym (c .before .before .declared .ensures) ∙ c .before .if1 .taken in
-    starts-declared t (now (a .rises)) ready (a .method) (a .set) entry (c .node-count .result - 1) declared
-    (root-number t (now (a .rises)) ready (a .method) (c .node-count .result) (entry .method) (c .node-count .ensures .is))
+    starts-declared t (now (a .rises)) ready (a .method) (a .set) entry (c .at-root .result) declared (c .at-root .ensures)
 
 mul-entry-before : tie.Need-mul-entry-before
 mul-entry-before c =
@@ -126,9 +104,7 @@ first-walk-spec =
     tie.close
     (tie.spec
     declared-requires
-    node-count-requires
-    sub-t11
-    cast-t12
+    at-root-requires
     returns
     mul-entry-before
     add-entry-before
