@@ -1,5 +1,7 @@
 // The breach program: a text on standard input, the breach of a declaration on standard output if the text is refused for one, and
 // nothing else there.
+#![tactic(auto)]
+
 use libc::STDIN_FILENO;
 
 // Where a read fails the text is not known, and nothing is printed.

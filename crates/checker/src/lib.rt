@@ -1,4 +1,6 @@
 // The one call: grade a text into a lent answer. Beside it, a root's grade in the lowest tables.
+#![tactic(auto)]
+
 mod root;
 
 ghost use Rattle.std.specs.Prelude.{◌≡◌, true, length};

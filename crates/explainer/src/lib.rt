@@ -1,4 +1,6 @@
 // Why a grade is what it is (document 02, W-207).
+#![tactic(auto)]
+
 mod asked;
 mod before;
 mod broken;

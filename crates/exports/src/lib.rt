@@ -1,5 +1,7 @@
 // The library for programs in other languages: functions on numbers, byte slices and a slice of steps. A slice passes as a pointer and
 // then a length.
+#![tactic(auto)]
+
 ghost use Rattle.std.specs.Prelude.{◌≡◌, ◌++◌, ◌≤◌, length, drop};
 ghost use Rattle.checker.specs.Grading.{numbers_of};
 ghost use Rattle.session.specs.Session.{session_of};

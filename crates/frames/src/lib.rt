@@ -1,4 +1,6 @@
 // Frames: from any text to checked tables (document 01, "Frames" and "Refusal numbers").
+#![tactic(auto)]
+
 mod accessors;
 pub mod layout;
 mod links;

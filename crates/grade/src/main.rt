@@ -1,4 +1,6 @@
 // The grading program: a text on standard input, its session's frames on standard output, and nothing else there.
+#![tactic(auto)]
+
 use libc::STDIN_FILENO;
 
 // Where a read fails the text is not known, and nothing is printed.

@@ -1,6 +1,8 @@
 // Lines of digits, places in a text, and the reader: a lent text and the place reached in it, together in one record, which gives out the next
 // frame (document 01, "Frames"). The borrow checker covers no function over a record that holds a reference, so those are few, each proved by a walk of
 // its own. The work stands in `frame_at`, over a plain slice and the place's two numbers.
+#![tactic(auto)]
+
 mod lines;
 
 ghost use Rattle.std.specs.Prelude.{◌≡◌};
@@ -9,7 +11,7 @@ ghost use Rattle.lines.specs.Reader.{start, frame_at, opened, next_frame, moved_
 pub use lines::{frame_length, line_byte};
 
 // A place in a text: how many bytes stand before it, and the number of its line, from 1.
-#[derive(Drop)]
+#[derive(Clone, Copy)]
 pub struct Place {
     pub at: usize,
     pub line: usize,

@@ -1,1 +1,2 @@
 // What a grade says of a run: definitions and theorems alone.
+#![tactic(auto)]

@@ -1,4 +1,6 @@
 // The session: the bytes that the grading program prints for a text (document 01, "One whole session").
+#![tactic(auto)]
+
 mod breaches;
 mod frames_of;
 mod writing;

@@ -1,4 +1,6 @@
 // The lowest grades of a program's methods, and the first closed constraint that they break.
+#![tactic(auto)]
+
 mod constraints;
 mod node;
 mod rises;

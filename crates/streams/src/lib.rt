@@ -1,4 +1,6 @@
 // What programs read and write. Only a read of 0 bytes ends an input: where a read fails it is unknown what else there was.
+#![tactic(auto)]
+
 ghost use Rattle.io.specs.Counts.{IsPrefixLen};
 
 // What came of it: how many bytes were put at the start of the buffer, and whether a read failed after them.

@@ -1,4 +1,6 @@
 // Grades each text that an argument names: writes the name, then the session's lines.
+#![tactic(auto)]
+
 use libc::STDOUT_FILENO;
 
 fn grade_text(text: &[u8]) {

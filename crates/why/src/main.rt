@@ -3,6 +3,8 @@
 //     all FILE              the same for each method and each of its held sets; of a refused text the refusal alone
 //     broken FILE           of a text that is refused by 7 the steps behind the broken constraint; of any other nothing
 // Of a file that cannot be read nothing is printed. What is no question ends the run.
+#![tactic(auto)]
+
 ghost use Rattle.std.specs.Prelude.{◌+◌, ◌<◌, ◌≤◌, ◌^◌};
 ghost use Rattle.io.specs.Counts.{IsPrefixLen};
 
