@@ -11,7 +11,8 @@ use Rattle.frames.specs.Promises.{read-exactly}
 use Rattle.meaning.specs.Meaning.{Assignment}
 use Rattle.meaning.specs.Lowest.{method_count}
 use Rattle.meaning.specs.Constraints.{Satisfies, Answer, accepted, refused, answer, entry_of}
-use Rattle.meaning.specs.Demand2.{IsRounds, LowestOfAll, Named, Permitted, demand-2}
+use Rattle.meaning.specs.Demand2.{IsRounds, LowestOfAll, Named, Permitted}
+use Rattle.meaning.proofs.Demand2.{demand-2}
 use Rattle.solver.specs.Laws.Flat.{flat-entry}
 use Rattle.checker.specs.Grading.{program_read, by_answer, verdict_of, bytes_by_answer, answer_of}
 use Rattle.checker.specs.Laws.Grading.{right-verdict, right-bytes}

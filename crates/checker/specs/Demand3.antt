@@ -13,7 +13,7 @@ use Rattle.meaning.specs.Meaning.{Assignment}
 use Rattle.meaning.specs.Lowest.{NoWorse, method_count, entry_count}
 use Rattle.meaning.specs.Constraints.{Answer, accepted, refused, answer, entry_of}
 use Rattle.meaning.specs.Changes.{StruckOut, WrittenBack, DeclaredAntitone}
-use Rattle.meaning.specs.Demand3.{demand-3}
+use Rattle.meaning.proofs.Demand3.{demand-3}
 use Rattle.solver.specs.Flat.{flat}
 use Rattle.solver.specs.Laws.Flat.{flat-length, flat-at, flat-entry}
 use Rattle.checker.specs.Grading.{program_read, by_answer, verdict_of, bytes_by_answer, answer_of}

@@ -9,11 +9,11 @@ use Rattle.frames.specs.Laws.WellFormed.{well-formed}
 use Rattle.meaning.specs.Meaning.{Assignment}
 use Rattle.meaning.specs.Lowest.{NoWorse, method_count, rounds, lowest}
 use Rattle.meaning.specs.Constraints.{Answer, accepted, tables_of, entry_of, answer}
-use Rattle.meaning.specs.Laws.Answers.{when-accepted, tables-lowest}
+use Rattle.meaning.proofs.Laws.Answers.{when-accepted, tables-lowest}
 use Rattle.meaning.specs.Changes.{DeclaredAntitone}
 use Rattle.meaning.specs.NotHeld.{as_not_held, RulesCompared}
-use Rattle.meaning.specs.Laws.NotHeld.{rules-compared}
-use Rattle.meaning.specs.Laws.NeverHeld.{never-held}
+use Rattle.meaning.proofs.Laws.NotHeld.{rules-compared}
+use Rattle.meaning.proofs.Laws.NeverHeld.{never-held}
 use Rattle.checker.specs.Grading.{program_read, by_answer, verdict_of, bytes_by_answer, answer_of}
 use Rattle.checker.specs.Demand1.{Gradable}
 use Rattle.checker.specs.Demand2.{says, bytes}

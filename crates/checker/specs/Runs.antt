@@ -14,10 +14,11 @@ use Rattle.frames.specs.Laws.WellFormed.{well-formed}
 use Rattle.meaning.specs.Meaning.{Assignment}
 use Rattle.meaning.specs.Lowest.{method_count, entry_count}
 use Rattle.meaning.specs.Constraints.{entry_of}
-use Rattle.meaning.specs.Demand2.{Permitted, demand-2}
+use Rattle.meaning.specs.Demand2.{Permitted}
+use Rattle.meaning.proofs.Demand2.{demand-2}
 use Rattle.solver.specs.Laws.Flat.{flat-entry}
 use Rattle.running.specs.Runs.{RunsAsGraded}
-use Rattle.running.specs.Laws.Runs.{runs-as-graded}
+use Rattle.running.proofs.Laws.Runs.{runs-as-graded}
 use Rattle.checker.specs.Grading.{program_read, answer_of}
 use Rattle.checker.specs.Demand3.{Passes, Found, found}
 

@@ -15,7 +15,7 @@ use Rattle.frames.specs.Laws.WellFormed.{well-formed}
 use Rattle.meaning.specs.Lowest.{method_count, rounds, lowest}
 use Rattle.meaning.specs.Constraints.{Answer, accepted, answer}
 use Rattle.meaning.specs.Unnamed.{Aside, ChangedAside, ForkRefused as BrokenFork}
-use Rattle.meaning.specs.Laws.Unnamed.{unnamed-no-effect}
+use Rattle.meaning.proofs.Laws.Unnamed.{unnamed-no-effect}
 use Rattle.checker.specs.Grading.{program_read, by_answer, verdict_of, bytes_by_answer, answer_of}
 use Rattle.checker.specs.Laws.ChangedLines.{frames-changed}
 use Rattle.checker.specs.Demand1.{Gradable}

@@ -18,8 +18,8 @@ use Rattle.frames.specs.declared.Checked.{Checked}
 use Rattle.meaning.specs.Meaning.{op_of, root_table}
 use Rattle.meaning.specs.Lowest.{method_count, entry_count, is_entry, is_declared, declared_table, lowest}
 use Rattle.meaning.specs.Constraints.{Entry, Closed, declared_root, main_table, forked_table, method_of, kind_of, node_of, named_method, is_fork, fork_at, forks_of, closed_of, closed_of_all, closed, FirstBroken}
-use Rattle.meaning.specs.Laws.Answers.{when-refused}
-use Rattle.meaning.specs.Laws.Lowest.{is_entry-of}
+use Rattle.meaning.proofs.Laws.Answers.{when-refused}
+use Rattle.meaning.proofs.Laws.Lowest.{is_entry-of}
 use Rattle.reasons.specs.Steps.{body_reason}
 use Rattle.checker.specs.Grading.{program_read, verdict_of}
 use Rattle.checker.specs.Laws.Grading.{read-program}

@@ -22,7 +22,6 @@ use Rattle.frames.specs.Laws.WellFormed.{well-formed}
 use Rattle.frames.specs.declared.Checked.{Checked}
 use Rattle.frames.specs.declared.Due.TheVariants.{End}
 use Rattle.frames.specs.declared.Outcome.{Outcome}
-use Rattle.frames.specs.declared.Outcome.TheVariants as Outcome
 use Rattle.frames.specs.declared.Fault.{Fault}
 use Rattle.frames.specs.declared.Fault.TheVariants.{Sound, Malformed, Misplaced, OutOfRange, Unlinked}
 use Rattle.counting.specs.Laws.Tests.{lt-or-le}

@@ -1,17 +1,15 @@
 -- Reading a text: "2, then line by line, in each line 3, 4, 5, 6". Every text is read to the first line with a fault, or whole.
 -- Assumes nothing.
-use Rattle.std.specs.Prelude.{ℕ, zero, suc, ◌+◌, ◌-◌, ◌^◌, min, Bool, cond, List, [], ltb, length, get_or, drop}
+use Rattle.std.specs.Prelude.{ℕ, zero, suc, ◌+◌, Bool, cond, List, [], ltb, length, get_or}
 use Rattle.frames.specs.Layout.{layout, tables_length}
 use Rattle.lines.specs.Lines.{lines, well_formed}
 use Rattle.frames.specs.Frames.{Frames, frames_of, due, placed}
 use Rattle.frames.specs.Ranges.{in_range}
 use Rattle.frames.specs.Links.{linked}
 use Rattle.frames.specs.Tables.{table_of}
-use Rattle.lines.specs.declared.Place.{Place}
 use Rattle.frames.specs.declared.Tables.{Tables}
 use Rattle.frames.specs.declared.Checked.{Checked}
 use Rattle.frames.specs.declared.Outcome.{Outcome}
-use Rattle.frames.specs.declared.Outcome.TheVariants as Outcome
 use Rattle.frames.specs.declared.Due.{Due}
 use Rattle.frames.specs.declared.Due.TheVariants.{Header, Field, Method, Node, End}
 use Rattle.frames.specs.declared.Fault.{Fault}

@@ -1,6 +1,6 @@
 -- What holds of every program that a text reads as: the ranges and references of document 01's "Frames", said of the program alone.
 -- Assumes nothing.
-use Rattle.std.specs.Prelude.{ℕ, zero, suc, ◌+◌, ◌≤◌, ◌<◌, ◌^◌, ◌≡◌, true, false, List, [], ◌∷◌, ◌⊎◌, length, get_or, take}
+use Rattle.std.specs.Prelude.{ℕ, zero, suc, ◌≤◌, ◌<◌, ◌^◌, ◌≡◌, true, false, List, [], ◌∷◌, ◌⊎◌, length, get_or, take}
 use Rattle.frames.specs.Layout.{layout}
 use Rattle.frames.specs.Program.{Field, Node, Method, Program, field_at, method_at, node_at}
 use Rattle.frames.specs.Ranges.{children_listed, names_listed, uses_field, uses_method}

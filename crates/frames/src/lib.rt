@@ -17,7 +17,7 @@ pub struct Tables {
 }
 
 // What reading a text comes to; a refusal for a line gives the line, from 1.
-#[derive(Drop)]
+#[derive(Clone, Copy)]
 pub enum Outcome {
     Whole,
     Overlong,
@@ -43,7 +43,7 @@ pub struct OneText {
 }
 
 // The frame that is due next.
-#[derive(Drop)]
+#[derive(Clone, Copy)]
 pub enum Due {
     Header,
     Field,
@@ -53,7 +53,7 @@ pub enum Due {
 }
 
 // What is wrong with a line.
-#[derive(Drop)]
+#[derive(Clone, Copy)]
 pub enum Fault {
     Sound,
     Malformed,
@@ -63,7 +63,7 @@ pub enum Fault {
 }
 
 // The method that the next node stands in, and the node's number there.
-#[derive(Drop)]
+#[derive(Clone, Copy)]
 pub struct Stand {
     pub method: usize,
     pub number: usize,

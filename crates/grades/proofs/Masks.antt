@@ -8,7 +8,7 @@ use lib.Bits.{bit_and, bit_or, and_mask, or_step, or_zero_r}
 use lib.Dec.{eqb}
 use lib.Pow.{pow_pos, pow-lt}
 use Rattle.grades.specs.HeldSets.{held, add}
-use Rattle.grades.specs.Laws.HeldSets.{from_halves, add-zero-half, add-zero-odd, add-suc-half, add-suc-odd}
+use Rattle.grades.proofs.Laws.HeldSets.{from_halves, add-zero-half, add-zero-odd, add-suc-half, add-suc-odd}
 
 -- the lowest bit of a shifted set
 pub shifted-bit : (H j : ℕ) → eqb (bit_and (H / 2 ^ j) 1) 1 ≡ held H j

@@ -4,4 +4,3 @@ pub mod Grades
 pub mod Access
 pub mod HeldSets
 pub mod Cases
-pub mod Laws

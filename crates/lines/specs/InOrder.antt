@@ -1,15 +1,14 @@
 -- A reader that is moved past each frame gives out the frames of the text's lines, each once and in order, with its line number, and then
 -- the end.
 -- Assumes nothing.
-use Rattle.std.specs.Prelude.{ℕ, zero, suc, ◌+◌, ◌-◌, ◌^◌, ◌<◌, ◌≤◌, ◌≡◌, refl, List, [], length, get_or, drop}
-use Rattle.std.proofs.Common.{zero-le, sym, ap, ◌∙◌, ⊎_elim, arith, length-drop, drop_of_length-le, lt-ltb}
+use Rattle.std.specs.Prelude.{ℕ, zero, suc, ◌+◌, ◌^◌, ◌<◌, ◌≤◌, ◌≡◌, refl, List, [], length, get_or, drop}
+use Rattle.std.proofs.Common.{sym, ap, ◌∙◌, ⊎_elim, arith, length-drop, drop_of_length-le, lt-ltb}
 use Rattle.lines.specs.Lines.{lines, frame_length}
 use Rattle.lines.specs.Places.{past_line}
 use Rattle.lines.specs.Laws.Places.{past-line-at}
 use Rattle.lines.specs.declared.Place.{Place}
 use Rattle.lines.specs.Reader.{start, frame_at}
 use Rattle.lines.specs.Laws.Reader.{at-end}
-use Rattle.lines.specs.declared.Found.{Found}
 use Rattle.lines.specs.declared.Found.TheVariants.{Frame, End}
 use Rattle.lines.specs.Laws.Lines.{line_at}
 use Rattle.counting.specs.Laws.Tests.{lt-or-le}

@@ -11,4 +11,3 @@ pub mod Demand3
 pub mod Tree
 pub mod Unnamed
 pub mod NotHeld
-pub mod Laws

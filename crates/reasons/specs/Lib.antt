@@ -5,4 +5,3 @@ pub mod Steps
 pub mod Reason
 pub mod Enough
 pub mod Cases
-pub mod Laws

@@ -6,4 +6,3 @@ pub mod Threads
 pub mod Runs
 pub mod Movers
 pub mod Teeth
-pub mod Laws

@@ -1,6 +1,6 @@
 -- Which steps can change places with another thread's, and what a word must look like for its joined events to be put together. It knows no grade.
 -- Assumes nothing.
-use Rattle.std.specs.Prelude.{ℕ, Bool, true, false, not, cond, ◌&&◌, ◌||◌, List, [], ◌∷◌, T, get_or}
+use Rattle.std.specs.Prelude.{ℕ, Bool, true, false, not, cond, ◌&&◌, ◌||◌, [], ◌∷◌, T, get_or}
 use Rattle.running.specs.Machine.{Action, acquire, release, access, begin, Event, Word}
 
 -- ---- accesses, by the guard of the field: 0 final, 1 guarded, 2 write-guarded, 3 none; another guard permits nothing

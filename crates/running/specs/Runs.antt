@@ -1,6 +1,6 @@
 -- What a run of a program is, and what is said of it: it is disciplined, and it is serialised.
 -- Assumes nothing.
-use Rattle.std.specs.Prelude.{ℕ, zero, suc, Bool, true, false, List, [], ◌∷◌, ◌≡◌, eqb, leb, get_or}
+use Rattle.std.specs.Prelude.{ℕ, zero, suc, Bool, true, false, [], ◌∷◌, ◌≡◌, eqb, leb}
 use Rattle.grades.specs.Grades.{atomic}
 use Rattle.grades.specs.HeldSets.{packed}
 use Rattle.frames.specs.Program.{Program, field_at, method_at}

@@ -6,7 +6,7 @@ use Rattle.grades.specs.HeldSets.{no_name}
 use Rattle.frames.specs.Program.{Node, Program, field_at, method_at, node_at}
 use Rattle.frames.specs.Links.{guard_uses}
 use Rattle.meaning.specs.Meaning.{root_of, Op, plain_value, read, write, sequence, choice, loop, synchronised, assertion, call, fork, no_op, op_of, first_name}
-use Rattle.running.specs.Machine.{World, own, changed, Action, acquire, release, access, begin, Event, Word}
+use Rattle.running.specs.Machine.{World, changed, Action, acquire, release, access, begin, Event, Word}
 
 -- ---- code
 

@@ -11,12 +11,12 @@ use Rattle.frames.specs.Reading.{read_text}
 use Rattle.frames.specs.declared.Checked.{Checked}
 use Rattle.frames.specs.declared.Outcome.TheVariants.{Whole}
 use Rattle.meaning.specs.Meaning.{root_table}
-use Rattle.meaning.specs.Laws.Meaning.{root-error}
+use Rattle.meaning.proofs.Laws.Meaning.{root-error}
 use Rattle.counting.specs.Counting.{All, up_to, only_if}
 use Rattle.counting.specs.Laws.Counting.{all_append, all_right, all-together, all-up_to, all-only_if}
 use Rattle.meaning.specs.Lowest.{method_count, is_declared, declared_table, lowest}
 use Rattle.meaning.specs.Constraints.{Entry, Closed, declared_root, main_table, forked_table, method_of, kind_of, fork_at, forks_of, closed_of, closed_of_all, closed, refused, answer, FirstBroken}
-use Rattle.meaning.specs.Laws.Answers.{when-refused}
+use Rattle.meaning.proofs.Laws.Answers.{when-refused}
 use Rattle.checker.specs.Grading.{program_read, verdict_of, numbers_of}
 use Rattle.checker.specs.Demand1.{Case, demand-1}
 use Rattle.checker.specs.declared.Verdict.{Verdict}

@@ -22,7 +22,7 @@ use Rattle.frames.specs.declared.Outcome.TheVariants as Outcome
 use Rattle.grades.specs.HeldSets.{entries}
 use Rattle.meaning.specs.Lowest.{method_count, entry_count, is_declared, rounds, lowest}
 use Rattle.meaning.specs.Constraints.{Closed, declared_root, main_table, forked_table, method_of, kind_of, node_of, sets_of, fork_at, forks_of, closed_of, closed_of_all, closed, named_method, Answer, accepted, refused, answer, entry_of}
-use Rattle.meaning.specs.Laws.Answers.{when-accepted, when-refused, table-length}
+use Rattle.meaning.proofs.Laws.Answers.{when-accepted, when-refused, table-length}
 use Rattle.counting.specs.Counting.{All, up_to, only_if}
 use Rattle.counting.specs.Laws.Counting.{all_append, all_right, all-together, all-up_to, all-only_if}
 use Rattle.solver.specs.Flat.{flat}

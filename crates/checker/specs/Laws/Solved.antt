@@ -9,7 +9,7 @@ use Rattle.counting.specs.Counting.{up_to}
 use Rattle.meaning.specs.Lowest.{method_count, rounds, lowest}
 use Rattle.meaning.specs.Constraints as constraints
 use Rattle.meaning.specs.Constraints.{none_broken, broken, finding, accepted, refused, tables_of, answer_by, answer}
-use Rattle.meaning.specs.Laws.Answers.{entry-lowest}
+use Rattle.meaning.proofs.Laws.Answers.{entry-lowest}
 use Rattle.solver.specs.Laws.Views.{method-count}
 use Rattle.solver.specs.Flat.{program_in, flat}
 use Rattle.solver.specs.Room.{has_room}

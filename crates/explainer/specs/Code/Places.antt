@@ -7,7 +7,7 @@ use Rattle.meaning.specs.Lowest.{entry_count, after, declarations, is_declared, 
 use Rattle.meaning.specs.Constraints.{Entry}
 use Rattle.reasons.specs.Steps as steps
 use Rattle.reasons.specs.Steps.{Next, ends, goes_on, grade_at, parts_at, part_grade_at, node_here, tables_before, callee_set}
-use Rattle.reasons.specs.Laws.Turns.{PlaceFits}
+use Rattle.reasons.proofs.Laws.Turns.{PlaceFits}
 use Rattle.solver.specs.Flat.{program_in}
 use Rattle.solver.specs.Code.Rounds.{At}
 use Rattle.explainer.specs.declared.places.Place.{Place}

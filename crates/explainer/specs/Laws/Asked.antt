@@ -19,8 +19,8 @@ use Rattle.frames.specs.Promises.{read-well-formed}
 use Rattle.meaning.specs.Meaning.{Assignment, root_of}
 use Rattle.meaning.specs.Lowest.{method_count, entry_count, is_entry, is_declared, rounds, lowest}
 use Rattle.meaning.specs.Constraints.{Entry}
-use Rattle.meaning.specs.Laws.Rounds.{lowest-after}
-use Rattle.meaning.specs.Laws.Lowest.{entry-method, entry_set}
+use Rattle.meaning.proofs.Laws.Rounds.{lowest-after}
+use Rattle.meaning.proofs.Laws.Lowest.{entry-method, entry_set}
 use Rattle.reasons.specs.Steps as steps
 use Rattle.reasons.specs.Steps.{tables_before, first_place, root_place, chain_from, declared_step, reason}
 use Rattle.solver.specs.Flat.{program_in}

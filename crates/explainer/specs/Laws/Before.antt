@@ -18,10 +18,10 @@ use Rattle.frames.specs.Frames.{methods_in}
 use Rattle.frames.specs.Tables.{cell}
 use Rattle.meaning.specs.Meaning.{Assignment}
 use Rattle.meaning.specs.Lowest.{method_count, entry_count, is_entry, after, declarations, is_declared, rounds}
-use Rattle.meaning.specs.Laws.Lowest.{after-outside}
+use Rattle.meaning.proofs.Laws.Lowest.{after-outside}
 use Rattle.meaning.specs.Constraints.{Entry}
 use Rattle.reasons.specs.Steps.{tables_before, first_round}
-use Rattle.reasons.specs.Laws.Rises.{entry-rises, entry-grade, stays-lowest, undeclared-start, first-at-least-one, first_round_lem, first-risen}
+use Rattle.reasons.proofs.Laws.Rises.{entry-rises, entry-grade, stays-lowest, undeclared-start, first-at-least-one, first_round_lem, first-risen}
 use Rattle.solver.specs.Flat.{program_in, flat, tables_in}
 use Rattle.solver.specs.Rises.{never, rise_by, entry_after, rises}
 use Rattle.solver.specs.Laws.Rounds.{read_back, rounds-few}

@@ -21,8 +21,8 @@ use Rattle.meaning.specs.Lowest.{is_entry, rounds}
 use Rattle.meaning.specs.Constraints.{Entry, named_method}
 use Rattle.reasons.specs.Steps as steps
 use Rattle.reasons.specs.Steps.{chain_from, body_place, body_reason}
-use Rattle.reasons.specs.Laws.Turns.{PlaceFits}
-use Rattle.reasons.specs.Laws.Reason.{body-fits}
+use Rattle.reasons.proofs.Laws.Turns.{PlaceFits}
+use Rattle.reasons.proofs.Laws.Reason.{body-fits}
 use Rattle.solver.specs.Flat.{program_in}
 use Rattle.solver.specs.Laws.Views.{method-past}
 use Rattle.checker.specs.Grading.{program_read, by_reading}

@@ -9,13 +9,13 @@ use Rattle.counting.specs.Counting.{member, together}
 use Rattle.counting.specs.Laws.Counting.{first-unique}
 use Rattle.counting.specs.Laws.Tests.{and-false, both_left, both_right, both_of}
 use Rattle.grades.specs.HeldSets.{held, no_name, packed}
-use Rattle.grades.specs.Laws.HeldSets.{held_first, held_next}
+use Rattle.grades.proofs.Laws.HeldSets.{held_first, held_next}
 use Rattle.frames.specs.Program.{Node, Program, method_at}
 use Rattle.meaning.specs.Meaning.{Assignment, allowed, choices, matching, callee_entry}
 use Rattle.meaning.specs.Lowest.{entry_count}
-use Rattle.meaning.specs.Laws.Calls.{entries-few}
+use Rattle.meaning.proofs.Laws.Calls.{entries-few}
 use Rattle.reasons.specs.Steps.{callee_set}
-use Rattle.reasons.specs.Laws.Calls.{Attained, match-attained, match-below, largest-least}
+use Rattle.reasons.proofs.Laws.Calls.{Attained, match-attained, match-below, largest-least}
 use Rattle.explainer.specs.Code.Callee.{agrees, Meets, Best}
 
 -- ---- one name more

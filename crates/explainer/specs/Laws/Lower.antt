@@ -13,12 +13,12 @@ use Rattle.frames.specs.Tables.{cell, method_of}
 use Rattle.frames.specs.Program.{Node, Method, method_at, node_at}
 use Rattle.frames.specs.Laws.Tables.{nodes-length}
 use Rattle.grades.specs.HeldSets.{entries, no_name}
-use Rattle.grades.specs.Laws.HeldSets.{add-below}
+use Rattle.grades.proofs.Laws.HeldSets.{add-below}
 use Rattle.meaning.specs.Meaning.{Assignment, op_of, first_name, children, child_set, below, meaning}
 use Rattle.meaning.specs.Lowest.{method_count, entry_count}
 use Rattle.meaning.specs.Tree.{Among}
-use Rattle.meaning.specs.Laws.Tree.{child-below}
-use Rattle.meaning.specs.Laws.Meaning.{below-meaning, below_none}
+use Rattle.meaning.proofs.Laws.Tree.{child-below}
+use Rattle.meaning.proofs.Laws.Meaning.{below-meaning, below_none}
 use Rattle.solver.specs.Flat.{program_in}
 use Rattle.solver.specs.Nodes.{node_in, no_child, child_at, mask_set, PartsOf}
 use Rattle.solver.specs.declared.node.Parts.{Parts}

@@ -18,9 +18,9 @@ use Rattle.meaning.specs.Lowest.{method_count, rounds}
 use Rattle.meaning.specs.Constraints.{Entry}
 use Rattle.reasons.specs.Steps as steps
 use Rattle.reasons.specs.Steps.{node_here, first_round, root_place}
-use Rattle.reasons.specs.Laws.Turns.{PlaceFits}
-use Rattle.reasons.specs.Laws.Rises.{entry-grade}
-use Rattle.reasons.specs.Laws.Ends.{root-fits, some-nodes}
+use Rattle.reasons.proofs.Laws.Turns.{PlaceFits}
+use Rattle.reasons.proofs.Laws.Rises.{entry-grade}
+use Rattle.reasons.proofs.Laws.Ends.{root-fits, some-nodes}
 use Rattle.solver.specs.Flat.{program_in}
 use Rattle.solver.specs.Nodes.{node_in}
 use Rattle.solver.specs.Rises.{rises, rises_length}

@@ -8,17 +8,17 @@ use Rattle.std.proofs.Math.Decide.{dec_lt}
 use Rattle.counting.specs.Counting.{first}
 use Rattle.counting.specs.Laws.Counting.{first-same}
 use Rattle.grades.specs.Grades.{error, compose}
-use Rattle.grades.specs.Laws.Grades.{cap-grade, compose-const}
+use Rattle.grades.proofs.Laws.Grades.{cap-grade, compose-const}
 use Rattle.grades.specs.HeldSets.{held}
 use Rattle.frames.specs.Program.{Program, method_at, node_at}
 use Rattle.meaning.specs.Meaning.{Op, call, op_of, listed, children, child_set, first_name, Part, child, own, own_part, parts, part_grade, whole, node_grade, below, meaning}
 use Rattle.meaning.specs.Lowest.{is_declared}
-use Rattle.meaning.specs.Laws.Meaning.{below-error}
+use Rattle.meaning.proofs.Laws.Meaning.{below-error}
 use Rattle.reasons.specs.Steps.{Place, tables_before, node_here, grade_at, parts_at, part_grade_at, Pick, picked, none, first_part, last_atomic, pick_of, pick_at, or_else, ends, goes_on, Turn, end_rule, own_turn}
 use Rattle.solver.specs.Flat.{program_in}
 use Rattle.solver.specs.Laws.Engine.{op-cases, op-past}
 use Rattle.solver.specs.Code.Rounds.{At}
-use Rattle.reasons.specs.Laws.Calls.{CalleeSet, callee-set}
+use Rattle.reasons.proofs.Laws.Calls.{CalleeSet, callee-set}
 use Rattle.explainer.specs.declared.places.Place as code
 use Rattle.explainer.specs.Code.Lower.{Ready}
 use Rattle.explainer.specs.declared.places.Onward.{Onward}

@@ -10,8 +10,8 @@ use Rattle.frames.specs.Program.{method_at}
 use Rattle.reasons.specs.Steps as steps
 use Rattle.reasons.specs.Steps.{Next, ends, goes_on, step_at, turn_at, later, chain_from, most_steps, declared_step, tables_before}
 use Rattle.reasons.specs.Reason.{Linked, child, callee, child_of_two, callee_of_two}
-use Rattle.reasons.specs.Laws.Ends.{step_by, onward, chain-step, chain-within}
-use Rattle.reasons.specs.Laws.Bound.{few-open}
+use Rattle.reasons.proofs.Laws.Ends.{step_by, onward, chain-step, chain-within}
+use Rattle.reasons.proofs.Laws.Bound.{few-open}
 use Rattle.solver.specs.Flat.{program_in}
 use Rattle.solver.specs.Code.Rounds.{At}
 use Rattle.explainer.specs.declared.places.Place.{Place}

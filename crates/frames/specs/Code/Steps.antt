@@ -1,6 +1,6 @@
 -- What the reader carries from line to line, and what its private steps come to. `Reading` says what it all means.
 -- Assumes nothing.
-use Rattle.std.specs.Prelude.{ℕ, ◌+◌, ◌-◌, ◌*◌, ◌≤◌, ◌<◌, ◌≡◌, Bool, true, false, cond, List, [], ◌∷◌, ltb, eqb, length, set, take, drop}
+use Rattle.std.specs.Prelude.{ℕ, ◌+◌, ◌-◌, ◌*◌, ◌≤◌, ◌<◌, ◌≡◌, Bool, true, false, cond, List, [], ◌∷◌, ltb, eqb, length, set, drop}
 use Rattle.std.proofs.Math.Seq.{paste}
 use Rattle.frames.specs.Layout.{layout, tables_length}
 use Rattle.lines.specs.Lines.{lines, bytes, frame_length, well_formed}
@@ -15,7 +15,6 @@ use Rattle.frames.specs.declared.Due.TheVariants.{Header, Field, Method, Node, E
 use Rattle.frames.specs.declared.Fault.{Fault}
 use Rattle.frames.specs.declared.Fault.TheVariants.{Sound, Malformed, Misplaced, OutOfRange, Unlinked}
 use Rattle.frames.specs.declared.Outcome.{Outcome}
-use Rattle.frames.specs.declared.Outcome.TheVariants as Outcome
 use Rattle.frames.specs.declared.Stand.{Stand}
 use Rattle.frames.specs.declared.OneText.{OneText}
 use Rattle.counting.specs.Counting.{zeros}

@@ -1,15 +1,15 @@
 -- One text: how reading starts, goes on and ends.
 -- Assumes nothing.
-use Rattle.std.specs.Prelude.{ℕ, zero, suc, ◌+◌, ◌-◌, ◌*◌, ◌/◌, ◌%◌, ◌≤◌, ◌<◌, ◌≡◌, refl, Bool, true, false, cond, ◌&&◌, ltb, eqb, take}
-use Rattle.std.proofs.Common.{zero-le, ◌∙◌, le_refl, not-suc-le-zero, add-zero, add-one, drop_of_length-le, drop-cons, drop-drop, get_or-drop, le-ltb}
+use Rattle.std.specs.Prelude.{ℕ, zero, suc, ◌+◌, ◌-◌, ◌*◌, ◌/◌, ◌%◌, ◌≤◌, ◌<◌, ◌≡◌, refl, Bool, true, false, cond, ◌&&◌, ltb, take}
+use Rattle.std.proofs.Common.{zero-le, ◌∙◌, le_refl, not-suc-le-zero, add-one, drop_of_length-le, le-ltb}
 use Rattle.std.proofs.Math.Path.{ap, sym}
-use mathlib.Core.List.{List, [], ◌∷◌}
+use mathlib.Core.List.{List, []}
 use native.Mathlib.Omega.{arith}
 use Rattle.std.proofs.Math.ListN.{length, get_or, drop, length-drop}
 use Rattle.std.proofs.Math.Seq.{ext_get_or}
 use Rattle.lines.specs.Laws.Lines.{line_at}
 use Rattle.frames.specs.Layout.{layout, tables_length}
-use Rattle.lines.specs.Lines.{lines, line_length, bytes, frame_length, well_formed}
+use Rattle.lines.specs.Lines.{lines, line_length, frame_length, well_formed}
 use Rattle.frames.specs.Frames.{frames_of, due, placed}
 use Rattle.frames.specs.Links.{nodes_before}
 use Rattle.frames.specs.Laws.Sound.{sound-passes, header-sound, sound_more}

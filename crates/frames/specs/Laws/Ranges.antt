@@ -1,7 +1,7 @@
 -- Laws of the ranges' tests.
 -- Assumes nothing.
-use Rattle.std.specs.Prelude.{ℕ, zero, suc, ◌+◌, ◌≤◌, ◌<◌, min, ◌≡◌, refl, Bool, true, false, ◌&&◌, ◌||◌, [], ◌∷◌, leb, eqb}
-use Rattle.std.proofs.Common.{ap, sym, ◌∙◌, ⊎_elim, arith, not-suc-le-zero, add-one, lt-ltb, le-ltb, ne_eqb}
+use Rattle.std.specs.Prelude.{ℕ, ◌+◌, ◌≤◌, ◌<◌, min, ◌≡◌, Bool, true, false, ◌&&◌, ◌||◌, [], ◌∷◌, leb, eqb}
+use Rattle.std.proofs.Common.{sym, ◌∙◌, arith, lt-ltb, le-ltb, ne_eqb}
 use Rattle.std.proofs.Math.ListN.{get_or-eq_default}
 use Rattle.frames.specs.Layout.{layout}
 use Rattle.frames.specs.Frames.{Frame}

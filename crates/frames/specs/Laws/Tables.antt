@@ -1,7 +1,7 @@
 -- Laws of the tables' cells, and of what the tables say of a method.
 -- Assumes nothing.
 use Rattle.std.specs.Prelude.{ℕ, zero, suc, ◌+◌, ◌*◌, ◌^◌, ◌≤◌, ◌<◌, min, ◌≡◌, refl, Bool, true, false, cond, ◌&&◌, List, ◌⊎◌, ltb, length, get_or}
-use Rattle.std.proofs.Common.{zero-le, suc-le-suc, ap, ◌∙◌, inl, inr, ⊎_elim, arith, le_of_suc-le-suc, not-suc-le-zero, zero-add, suc-add, add-zero, add-one, lt-ltb, le-ltb}
+use Rattle.std.proofs.Common.{ap, ◌∙◌, ⊎_elim, arith, zero-add, suc-add, add-zero, add-one, lt-ltb, le-ltb}
 use Rattle.std.proofs.Math.ListN.{get_or-eq_default}
 use Rattle.counting.specs.Laws.Lists.{get_or-past-tabulate, get_d_tabulate, length-tabulate}
 use Rattle.counting.specs.Laws.Tests.{lt-or-le}

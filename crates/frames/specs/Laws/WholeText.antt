@@ -1,6 +1,6 @@
 -- The whole text: one text, and nothing after it.
 -- Assumes nothing.
-use Rattle.std.specs.Prelude.{ℕ, zero, suc, ◌+◌, ◌-◌, ◌≤◌, ◌<◌, ◌≡◌, refl, Bool, true, false, cond, ◌⊎◌, ltb, get_or}
+use Rattle.std.specs.Prelude.{ℕ, zero, suc, ◌+◌, ◌≤◌, ◌<◌, ◌≡◌, refl, Bool, true, false, cond, ◌⊎◌, ltb, get_or}
 use Rattle.std.proofs.Math.Path.{ap, sym, fun_ext}
 use Rattle.std.proofs.Common.{◌∙◌, inl, inr, ⊎_elim, arith, drop_of_length-le, lt-ltb, le-ltb, ltb-true}
 use mathlib.Core.List.{List, []}
@@ -19,11 +19,9 @@ use Rattle.frames.specs.declared.Due.TheVariants.{Header, Field, Method, Node, E
 use Rattle.frames.specs.declared.Fault.{Fault}
 use Rattle.frames.specs.declared.Fault.TheVariants.{Sound, Malformed, Misplaced, OutOfRange, Unlinked}
 use Rattle.frames.specs.declared.Outcome.{Outcome}
-use Rattle.frames.specs.declared.Outcome.TheVariants as Outcome
 use Rattle.frames.specs.declared.OneText.{OneText}
 use Rattle.frames.specs.declared.Checked.{Checked}
 use Rattle.frames.specs.declared.Tables.{Tables}
-use Rattle.lines.specs.declared.Place.{Place}
 use Rattle.lines.specs.Laws.Lines.{line_at}
 use Rattle.counting.specs.Laws.Tests.{lt-or-le}
 use Rattle.lines.specs.Places.{line_from}

@@ -1,7 +1,6 @@
 -- `frame_at` meets its contract: the line ends where the place after it stands, so what is cut out between the two is the line.
 -- Assumes nothing.
 use Rattle.lines.specs.Laws.Reader.{at-end, at-line}
-use borrow.Author.Rules.{rules}
 use native.Mathlib.Omega.{arith}
 use Rattle.lines.specs.Laws.Places.{past-line}
 use Rattle.lines.proofs.frame_at.Goals as goal

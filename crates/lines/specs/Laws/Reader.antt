@@ -1,12 +1,11 @@
 -- A text's end, and a line of it, as the code finds them.
 -- Assumes nothing.
-use Rattle.std.specs.Prelude.{ℕ, ◌-◌, ◌<◌, ◌≤◌, ◌≡◌, refl, List, length, take, drop}
+use Rattle.std.specs.Prelude.{ℕ, ◌-◌, ◌<◌, ◌≤◌, ◌≡◌, List, length, take, drop}
 use Rattle.std.proofs.Common.{sym, ap, ◌∙◌, le-ltb, lt-ltb}
 use Rattle.lines.specs.Lines.{frame_length}
 use Rattle.lines.specs.Places.{past_line, line_from}
 use Rattle.lines.specs.declared.Place.{Place}
 use Rattle.lines.specs.Reader.{frame_at}
-use Rattle.lines.specs.declared.Found.{Found}
 use Rattle.lines.specs.declared.Found.TheVariants.{Frame, End}
 use Rattle.lines.specs.Laws.Places.{past-line}
 

@@ -7,12 +7,12 @@ use Rattle.std.proofs.Math.Decide.{ℕ_discrete}
 use Rattle.std.proofs.Math.Dec.{leb-suc-zero}
 use Rattle.std.proofs.Math.ListN.{get_or-eq_default}
 use Rattle.grades.specs.Grades.{const, error, compose}
-use Rattle.grades.specs.Laws.Grades.{cap-grade, compose-error, compose-const}
+use Rattle.grades.proofs.Laws.Grades.{cap-grade, compose-error, compose-const}
 use Rattle.grades.specs.HeldSets.{mask_names, held, add, add_within}
 use Rattle.frames.specs.Program.{Node, Program}
 use Rattle.frames.specs.Ranges.{children_listed}
 use Rattle.meaning.specs.Meaning.{Assignment, Op, plain_value, read, write, sequence, choice, loop, synchronised, assertion, call, fork, no_op, op_of, listed, children, child_set, own_part, parts, part_grade, child, whole, first_name, node_grade, below, meaning}
-use Rattle.meaning.specs.Laws.Meaning.{below-error, below_none}
+use Rattle.meaning.proofs.Laws.Meaning.{below-error, below_none}
 use Rattle.solver.specs.Nodes.{no_child, child_at, own_grade, combined, mask_set}
 
 -- ---- absent parts

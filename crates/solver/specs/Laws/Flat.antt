@@ -12,7 +12,7 @@ use Rattle.std.proofs.lemmas.List.{length-replicate}
 use Rattle.frames.specs.Layout.{layout, answer_length}
 use Rattle.grades.specs.Grades.{const, cap, join}
 use Rattle.grades.specs.HeldSets.{entries}
-use Rattle.grades.specs.Laws.Grades.{join-larger, cap-grade}
+use Rattle.grades.proofs.Laws.Grades.{join-larger, cap-grade}
 use Rattle.frames.specs.Program.{Node, Method, Program, plain_node, node_at, method_at}
 use Rattle.frames.specs.Frames.{methods_in}
 use Rattle.frames.specs.Links.{node_count}
@@ -20,7 +20,7 @@ use Rattle.frames.specs.Tables.{cell, method_of, node_of, first_frame}
 use Rattle.frames.specs.Laws.Tables.{nodes-length, nodes-before-more}
 use Rattle.meaning.specs.Meaning.{Assignment, node_grade, below, meaning, root_of, root_table, whole, parts, children, op_of}
 use Rattle.meaning.specs.Lowest.{method_count, entry_count, is_entry, on_entries, start, round, is_declared, declared_table, declarations}
-use Rattle.meaning.specs.Laws.Meaning.{root-error}
+use Rattle.meaning.proofs.Laws.Meaning.{root-error}
 use Rattle.solver.specs.Code.Engine.{nodes_from, last_frame}
 use Rattle.solver.specs.Laws.Views.{method-in, method-count}
 use Rattle.solver.specs.Flat.{program_in, blank, flat, tables_in}

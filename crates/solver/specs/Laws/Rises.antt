@@ -16,7 +16,7 @@ use Rattle.frames.specs.Layout.{layout, answer_length}
 use Rattle.frames.specs.Frames.{methods_in}
 use Rattle.frames.specs.Tables.{cell}
 use Rattle.meaning.specs.Lowest.{declarations}
-use Rattle.meaning.specs.Laws.Lowest.{after-rises, after-outside}
+use Rattle.meaning.proofs.Laws.Lowest.{after-rises, after-outside}
 use Rattle.solver.specs.Flat.{program_in, blank, flat}
 use Rattle.solver.specs.Laws.Flat.{flat-length, flat-at, no-entry-method, not_entry, blank-at}
 use Rattle.solver.specs.Laws.Rounds.{after_rounds}

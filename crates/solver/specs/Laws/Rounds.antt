@@ -15,7 +15,7 @@ use Rattle.meaning.specs.Meaning.{Assignment}
 use Rattle.counting.specs.Counting.{total}
 use Rattle.counting.specs.Laws.Counting.{every_of}
 use Rattle.meaning.specs.Lowest.{method_count, entry_count, is_entry, after, round, same, settled, open_entries, rounds_from, lowest_from, rounds, lowest, is_declared, declarations}
-use Rattle.meaning.specs.Laws.Lowest.{after-fixed, after-outside, same_at, rounds-bound, rounds-settled, rounds-unique}
+use Rattle.meaning.proofs.Laws.Lowest.{after-fixed, after-outside, same_at, rounds-bound, rounds-settled, rounds-unique}
 use Rattle.solver.specs.Laws.Views.{method-count}
 use Rattle.solver.specs.Flat.{program_in, flat, tables_in}
 use Rattle.solver.specs.Laws.Flat.{flat-length, flat-at, flat-entry, flat-read, few-entries, entry-count, no-entry-far, no-entry-wide, not_entry}

@@ -13,7 +13,7 @@ use Rattle.frames.specs.Program.{Field, no_field, no_method, field_at, method_at
 use Rattle.frames.specs.Frames.{methods_in, fields_in, field_frame}
 use Rattle.frames.specs.Tables.{cell, field_of, method_of, program_of}
 use Rattle.meaning.specs.Meaning.{first_name, field_access, matching, largest, callee_entry, Assignment}
-use Rattle.meaning.specs.Laws.Calls.{over_none, over-unnamed, over-named}
+use Rattle.meaning.proofs.Laws.Calls.{over_none, over-unnamed, over-named}
 use Rattle.meaning.specs.Lowest.{method_count}
 use Rattle.solver.specs.Code.Engine.{entries_from}
 use Rattle.counting.specs.Counting.{tabulate}

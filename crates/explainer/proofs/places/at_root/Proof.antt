@@ -6,7 +6,7 @@ use borrow.Author.Rules.{rules}
 use Prim.Native.Nat.{◌-◌}
 use lib.ListN.{length}
 use Rattle.frames.specs.Program.{Method, method_at}
-use Rattle.reasons.specs.Laws.Ends.{some-nodes}
+use Rattle.reasons.proofs.Laws.Ends.{some-nodes}
 use Rattle.solver.specs.Flat.{program_in}
 use Rattle.solver.specs.Rises.{rises}
 use Rattle.solver.specs.Laws.Views.{method-in, method-count}

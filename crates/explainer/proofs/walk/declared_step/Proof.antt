@@ -7,7 +7,7 @@ use lib.ListN.{get_or}
 use Rattle.frames.specs.Program.{Method}
 use Rattle.meaning.specs.Lowest.{method_count, declared_table}
 use Rattle.reasons.specs.Steps.{declared_step}
-use Rattle.reasons.specs.Laws.Ends.{root_below}
+use Rattle.reasons.proofs.Laws.Ends.{root_below}
 use Rattle.solver.specs.Flat.{program_in}
 use Rattle.solver.specs.Laws.Views.{method-in, method-count}
 use Rattle.explainer.proofs.walk.declared_step.Statement.{statement}

@@ -1,6 +1,5 @@
 -- `grades::access::access` meets its contract: it asks the rule for writes or the one for reads.
 -- Assumes nothing.
-use borrow.Author.Rules.{rules}
 use Rattle.grades.specs.Access.{access}
 use Rattle.grades.proofs.access.access.Goals as goal
 

@@ -2,7 +2,6 @@
 -- Assumes nothing.
 use Prim.Native.Nat.{ℕ, zero, suc}
 use mathlib.Core.Path.{◌≡◌, refl}
-use borrow.Author.Rules.{rules}
 use Rattle.grades.specs.Grades.{cmpd}
 use Rattle.grades.specs.Access.{unprotected}
 use Rattle.grades.proofs.access.unprotected.Goals as goal

@@ -1,10 +1,9 @@
 -- `grades::access::write_access` meets its contract: each arm is the rule's own entry for that guard.
 -- Assumes nothing.
 use native.Mathlib.Omega.{arith}
-use borrow.Author.Rules.{rules}
 use mathlib.Core.Path.{sym}
 use Rattle.grades.specs.Access.{write_access}
-use Rattle.grades.specs.Laws.Access.{by_guard-other}
+use Rattle.grades.proofs.Laws.Access.{by_guard-other}
 use Rattle.grades.proofs.access.write_access.Goals as goal
 
 pub returns-in-0 : goal.returns-in-0

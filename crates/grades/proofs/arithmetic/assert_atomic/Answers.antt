@@ -2,8 +2,7 @@
 -- Assumes nothing.
 use mathlib.Core.Path.{sym, ap, ◌∙◌}
 use Rattle.grades.specs.Grades.{cap, assert_atomic}
-use Rattle.grades.specs.Laws.Grades.{assert-stays}
-use borrow.Author.Rules.{rules}
+use Rattle.grades.proofs.Laws.Grades.{assert-stays}
 use Rattle.grades.proofs.arithmetic.assert_atomic.Goals as goal
 
 pub returns-then-grade-eq3 : goal.returns-then-grade-eq3

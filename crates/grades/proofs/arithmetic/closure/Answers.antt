@@ -2,8 +2,7 @@
 -- Assumes nothing.
 use mathlib.Core.Path.{sym, ap, ◌∙◌}
 use Rattle.grades.specs.Grades.{cap, closure}
-use Rattle.grades.specs.Laws.Grades.{closure-stays}
-use borrow.Author.Rules.{rules}
+use Rattle.grades.proofs.Laws.Grades.{closure-stays}
 use Rattle.grades.proofs.arithmetic.closure.Goals as goal
 
 pub returns-then-grade-eq2 : goal.returns-then-grade-eq2

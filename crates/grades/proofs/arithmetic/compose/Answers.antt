@@ -6,8 +6,7 @@ use mathlib.Core.List.{[]}
 use lib.ListN.{get_or}
 use Prim.Native.Nat.{ℕ}
 use Rattle.grades.specs.Grades.{composition, compose}
-use Rattle.grades.specs.Laws.Grades.{cap-error}
-use borrow.Author.Rules.{rules}
+use Rattle.grades.proofs.Laws.Grades.{cap-error}
 use Rattle.grades.proofs.arithmetic.compose.Goals as goal
 
 pub bounds-row : goal.bounds-row

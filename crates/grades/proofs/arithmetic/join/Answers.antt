@@ -2,7 +2,6 @@
 -- Assumes nothing.
 use native.Mathlib.Omega.{arith}
 use Rattle.grades.specs.Grades.{cap, join}
-use borrow.Author.Rules.{rules}
 use Rattle.grades.proofs.arithmetic.join.Goals as goal
 
 pub returns-then-one-other : goal.returns-then-one-other

@@ -1,8 +1,7 @@
 -- `grades::arithmetic::lock_taken` meets its contract: two laws say which grades become atomic and which stay.
 -- Assumes nothing.
 use mathlib.Core.Path.{sym, ◌∙◌}
-use Rattle.grades.specs.Laws.Grades.{lock_taken-stays, lock_taken-atomic}
-use borrow.Author.Rules.{rules}
+use Rattle.grades.proofs.Laws.Grades.{lock_taken-stays, lock_taken-atomic}
 use Rattle.grades.proofs.arithmetic.lock_taken.Goals as goal
 
 pub returns-then-grade-lt2 : goal.returns-then-grade-lt2

@@ -2,7 +2,7 @@
 -- Assumes nothing.
 use mathlib.Core.Path.{sym}
 use Rattle.grades.proofs.Masks.{shifted-bit}
-use Rattle.grades.specs.Laws.HeldSets.{held-past}
+use Rattle.grades.proofs.Laws.HeldSets.{held-past}
 use borrow.Author.Rules.{rules}
 use Rattle.grades.proofs.held.holds.Goals as goal
 

@@ -1,11 +1,10 @@
 -- `grades::held::with_name` meets its contract: a bit put in is a name added.
 -- Assumes nothing.
-use mathlib.Core.Path.{◌≡◌, sym, ap, ◌∙◌}
+use mathlib.Core.Path.{ap, ◌∙◌}
 use borrow.Author.Tests.{lt-ltb, le-ltb}
 use lib.Bits.{bit_or}
 use Rattle.grades.specs.HeldSets.{add_within}
 use Rattle.grades.proofs.Masks.{one_bit, or-bit}
-use borrow.Author.Rules.{rules}
 use Rattle.grades.proofs.held.with_name.Goals as goal
 
 pub returns-then-name-lt-NAMES : goal.returns-then-name-lt-NAMES

@@ -3,7 +3,6 @@
 use Rattle.lines.specs.Laws.Places.{past-line-stays, past-line-goes}
 use mathlib.Core.Path.{sym}
 use native.Mathlib.Omega.{arith}
-use borrow.Author.Rules.{rules}
 use Rattle.lines.proofs.Place.past_line.Goals as goal
 
 pub returns-then-text-at : goal.returns-then-text-at

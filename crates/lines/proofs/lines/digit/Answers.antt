@@ -3,7 +3,6 @@
 use Rattle.lines.specs.Lines.{digit}
 use native.Mathlib.Omega.{arith}
 use borrow.Author.Tests.{le-leb, lt-leb}
-use borrow.Author.Rules.{rules}
 use Rattle.lines.proofs.lines.digit.Goals as goal
 
 pub returns-then-c-lt48 : goal.returns-then-c-lt48

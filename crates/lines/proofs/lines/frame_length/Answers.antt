@@ -1,12 +1,10 @@
 -- `frame_length` meets its contract: the pairs passed are digits, and what is left decides.
 -- Assumes nothing.
 use mathlib.Core.Logic.{inl, inr}
-use Rattle.lines.specs.Lines.{paired, bytes}
 use Rattle.lines.specs.Laws.Lines.{digit-most, pair-more, pair-none, pair-last, pair-past, frame-length-good, frame-length-bad}
-use lib.ListN.{length, drop, get_or}
-use Prim.Native.Nat.{◌≤◌, ◌-◌, ◌+◌}
-use mathlib.Core.Path.{◌≡◌, refl, sym, ◌∙◌}
-use borrow.Author.Rules.{rules}
+use lib.ListN.{get_or}
+use Prim.Native.Nat.{◌+◌}
+use mathlib.Core.Path.{refl, sym, ◌∙◌}
 use native.Mathlib.Omega.{arith}
 use borrow.Author.Tests.{eq-eqb, ne_eqb}
 use Rattle.lines.proofs.lines.frame_length.Goals as goal

@@ -1,12 +1,7 @@
-use mathlib.Core.Logic.{inl, inr}
 use Rattle.lines.specs.Lines.{paired, bytes}
-use Rattle.lines.specs.Laws.Lines.{digit-most, pair-more, pair-none, pair-last, pair-past, frame-length-good, frame-length-bad}
-use lib.ListN.{length, drop, get_or}
+use lib.ListN.{length, drop}
 use Prim.Native.Nat.{◌≤◌, ◌-◌, ◌+◌}
-use mathlib.Core.Path.{◌≡◌, refl, sym, ◌∙◌}
-use borrow.Author.Rules.{rules}
-use native.Mathlib.Omega.{arith}
-use borrow.Author.Tests.{eq-eqb, ne_eqb}
+use mathlib.Core.Path.{◌≡◌}
 use Rattle.lines.proofs.lines.frame_length.Given as goal
 
 abbrev pub invariant-loop-at : goal.invariant-loop-at

@@ -2,7 +2,6 @@
 -- Assumes nothing.
 use mathlib.Core.Path.{sym}
 use native.Mathlib.Omega.{arith}
-use borrow.Author.Rules.{rules}
 use Rattle.lines.specs.Laws.Lines.{bytes-at, bytes-length, bytes_past}
 use Rattle.lines.proofs.lines.line_byte.Goals as goal
 

@@ -1,11 +1,7 @@
 -- `line_end` meets its contract: what is left of the line at each place adds up with the bytes passed.
 -- Assumes nothing.
-use Rattle.lines.specs.Lines.{line_length}
 use Rattle.lines.specs.Laws.Lines.{line-ends, line-goes-on, line-at-end}
-use lib.ListN.{length, drop}
-use Prim.Native.Nat.{◌≤◌, ◌-◌, ◌+◌}
-use mathlib.Core.Path.{◌≡◌, refl}
-use borrow.Author.Rules.{rules}
+use mathlib.Core.Path.{refl}
 use native.Mathlib.Omega.{arith}
 use Rattle.lines.proofs.lines.line_end.Goals as goal
 

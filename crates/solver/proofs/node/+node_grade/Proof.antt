@@ -9,7 +9,7 @@ use Rattle.grades.specs.HeldSets.{mask_names}
 use Rattle.frames.specs.Program.{Node, Program}
 use Rattle.meaning.specs.Meaning.{Assignment, first_name, below}
 use Rattle.solver.specs.Code.Engine.{nodes_from, LocksFit}
-use Rattle.meaning.specs.Laws.Meaning.{below-meaning, below_none}
+use Rattle.meaning.proofs.Laws.Meaning.{below-meaning, below_none}
 use Rattle.solver.specs.Laws.Engine.{assembled, mask-set}
 use borrow.Fn.Kinds.{In}
 use borrow.Fn.PlainCycle.{Measures, is, falls, and}

@@ -8,7 +8,7 @@ use native.Mathlib.Nat.{le_refl}
 use borrow.Author.Tests.{lt-ltb}
 use borrow.Author.Rules.{rules}
 use Rattle.grades.specs.HeldSets.{add, add_within}
-use Rattle.grades.specs.Laws.HeldSets.{held-past, add_free}
+use Rattle.grades.proofs.Laws.HeldSets.{held-past, add_free}
 use Rattle.solver.proofs.node.answered.Statement.{statement}
 use Rattle.solver.proofs.node.answered.Tie as tie
 

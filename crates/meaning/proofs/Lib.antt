@@ -1,0 +1,3 @@
+pub mod Laws
+pub mod Demand2
+pub mod Demand3
