@@ -1,0 +1,52 @@
+-- `solver::rounds::start` meets its contract. The loop's invariant: the tables are worked out for the methods passed.
+-- Assumes nothing.
+use mathlib.Core.Path.{◌≡◌, refl, sym, ap, ap₂, ◌∙◌, subst}
+use native.Mathlib.Omega.{arith}
+use borrow.Author.Rules.{rules}
+use Prim.Native.Nat.{ℕ, ◌+◌, ◌*◌, ◌-◌, ◌≤◌, ◌<◌, ◌^◌}
+use mathlib.Core.List.{List}
+use mathlib.Core.Logic.{⊎_elim}
+use lib.ListN.{length, get_or}
+use Rattle.frames.specs.Layout.{layout}
+use Rattle.frames.specs.Frames.{methods_in}
+use Rattle.frames.specs.Tables.{cell}
+use Rattle.solver.specs.Flat.{blank}
+use Rattle.solver.specs.Laws.Flat.{done_none, done_all, skip-methods, blank-length, blank-at, flat-length, no-entry-method, start_outside, start-undeclared}
+use Rattle.solver.specs.Code.Rounds.{Done, is_fixed, start_tables}
+use Rattle.solver.proofs.rounds.start.Goals as goal
+use Rattle.solver.proofs.rounds.start.Goals.{then-declared, else-declared}
+
+pub loop-m-init : goal.loop-m-init
+unfolding blank
+loop-m-init c = (c.methods-methods.ensures.is, omega arith, done_none (start_tables c.args.tables.now) blank blank-length)
+
+pub start_method-requires : goal.start_method-requires
+start_method-requires c = let at = c.loop-m in
+    record { fits = c.requires; m_bound = omega (arith, at.invariant.0); m_value = sym c.declared.ensures ∙ c.if-declared.true; done = at.invariant.2 }
+
+pub loop-m-preserved : goal.loop-m-preserved
+loop-m-preserved c = let t = c.args.tables.now in
+    let fits = c.requires in
+    let at = c.loop-m in
+    let within : at.m < methods_in (cell t) = omega (arith, at.invariant.0) in
+    let next : layout.grades * at.m + layout.grades ≡ layout.grades * (at.m + 1) = omega arith in (
+      at.invariant.0,
+      omega arith,
+      elim c.if-declared.branch [
+        then-declared w ↦ subst (Done (layout.grades * (at.m + 1)) (start_tables t) blank) (sym w.new-is)
+          (subst (λ (n : ℕ). Done n (start_tables t) blank w.start_method.new.new) next w.start_method.ensures)
+        | else-declared w ↦ subst (Done (layout.grades * (at.m + 1)) (start_tables t) blank) (sym w.new-is)
+          (skip-methods at.m (at.m + 1) (start_tables t) blank at.new at.invariant.2 (omega arith)
+          (λ n h l k e. let same : at.m ≡ n = omega arith in
+          start-undeclared t fits n h (omega arith) e (ap (is_fixed t) (sym same) ∙ sym c.declared.ensures ∙ w.if-declared.false) ∙ sym (blank-at (layout.grades * n + h))))
+      ],
+    )
+
+pub returns : goal.returns
+unfolding start_tables
+returns c = let t = c.args.tables.now in
+    let fits = c.requires in
+    let at = c.loop-m in
+    done_all (start_tables t) blank at.new (flat-length _)
+    (skip-methods at.m layout.most_methods (start_tables t) blank at.new at.invariant.2 (omega (arith, at.invariant.0, fits.methods))
+    (λ n h l k e. start_outside t fits n h k e (no-entry-method t fits n h (omega (arith, at.invariant.0))) ∙ sym (blank-at (layout.grades * n + h))))

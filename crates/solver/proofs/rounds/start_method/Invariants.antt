@@ -1,0 +1,19 @@
+use mathlib.Core.Path.{◌≡◌, refl, sym, ap, ap₂, ◌∙◌, subst}
+use native.Mathlib.Omega.{arith}
+use borrow.Author.Rules.{rules}
+use Prim.Native.Nat.{ℕ, ◌+◌, ◌*◌, ◌-◌, ◌≤◌, ◌<◌, ◌^◌}
+use mathlib.Core.List.{List}
+use lib.ListN.{length, get_or, set, replicate, length-set, get_or-replicate}
+use Rattle.frames.specs.Layout.{layout}
+use Rattle.frames.specs.Tables.{cell, method_of}
+use Rattle.solver.specs.Flat.{blank}
+use Rattle.solver.specs.Laws.Flat.{done-store, skip-rest, few-entries, no-entry-set, count-read, start-declared, start_outside, blank-at}
+use native.Mathlib.Nat.{add-zero, add_assoc}
+use Rattle.solver.specs.Code.Rounds.{Done, start_tables}
+use Rattle.solver.proofs.rounds.start_method.Given as goal
+
+abbrev pub invariant-loop-h : goal.invariant-loop-h
+invariant-loop-h l = (l.h ≤ l.count) × (l.count ≡ 2 ^ (method_of (cell l.tables) l.m).k) × Done (layout.grades * l.m + l.h) (start_tables l.tables) blank l.new
+
+abbrev pub decreases-loop-h : goal.decreases-loop-h
+decreases-loop-h l = l.count - l.h

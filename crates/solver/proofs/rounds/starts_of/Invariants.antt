@@ -1,0 +1,17 @@
+use mathlib.Core.Path.{◌≡◌, refl, ◌∙◌, subst}
+use native.Mathlib.Omega.{arith}
+use borrow.Author.Rules.{rules}
+use Prim.Native.Nat.{ℕ, ◌+◌, ◌-◌, ◌*◌, ◌≤◌, ◌<◌}
+use Rattle.frames.specs.Laws.Tables.{nodes-length}
+use Rattle.frames.specs.Frames.{methods_in}
+use Rattle.frames.specs.Tables.{cell, first_frame}
+use Rattle.frames.specs.Links.{node_count, nodes_before}
+use Rattle.solver.specs.Laws.Flat.{starts_more, first_more}
+use Rattle.solver.specs.Code.Rounds.{Starts}
+use Rattle.solver.proofs.rounds.starts_of.Given as goal
+
+abbrev pub invariant-loop-m : goal.invariant-loop-m
+invariant-loop-m l = (l.methods ≡ methods_in (cell l.tables)) × (l.m ≤ l.methods) × (l.at ≡ first_frame (cell l.tables) l.m) × (l.at ≤ 512 + 65536 * l.m) × Starts l.tables l.m l.starts
+
+abbrev pub decreases-loop-m : goal.decreases-loop-m
+decreases-loop-m l = l.methods - l.m
