@@ -1,0 +1,16 @@
+use Prim.Native.Nat.{ℕ, ◌+◌, ◌*◌, ◌≤◌, ◌-◌}
+use mathlib.Core.List.{List, [], ◌∷◌}
+use mathlib.Core.Path.{◌≡◌, ap, ◌∙◌}
+use native.Mathlib.Omega.{arith}
+use lib.ListN.{length, get_or, take}
+use lib.Seq.{take-length}
+use Rattle.session.specs.Writing.{digits_of}
+use Rattle.session.specs.Page.{put_at}
+use Rattle.session.specs.Laws.Page.{put-none, digits_more, digits-length}
+use Rattle.session.proofs.writing.put_bytes.Given as goal
+
+abbrev pub invariant-loop-i : goal.invariant-loop-i
+invariant-loop-i l = (l.page ≡ put_at l.initial.page l.at (digits_of (take l.i l.bytes))) × (l.i ≤ length l.bytes)
+
+abbrev pub decreases-loop-i : goal.decreases-loop-i
+decreases-loop-i l = length l.bytes - l.i
