@@ -11,9 +11,7 @@ use Rattle.frames.specs.FirstFault.{First, Faultless}
 use Rattle.frames.specs.Promises.{long-exactly, short-outcome, refused, refused-exactly, read-faultless, read-exactly}
 use Rattle.frames.specs.declared.Checked.{Checked}
 use Rattle.frames.specs.declared.Fault.{Fault}
-use Rattle.frames.specs.declared.Fault.TheVariants as Fault
 use Rattle.frames.specs.declared.Outcome.{Outcome}
-use Rattle.frames.specs.declared.Outcome.TheVariants as Outcome
 use Rattle.meaning.specs.Lowest.{method_count}
 use Rattle.meaning.specs.Constraints.{Answer, accepted, refused as broken, answer, entry_of}
 use Rattle.solver.specs.Laws.Flat.{flat-length}

@@ -2,7 +2,7 @@
 -- lowest at each method and each held set. The text is refused by 7 exactly if no assignment satisfies them all, and then the first
 -- constraint broken by the lowest grades is named.
 -- Assumes nothing.
-use Rattle.std.specs.Prelude.{ℕ, ◌+◌, ◌*◌, ◌/◌, ◌%◌, ◌<◌, List, ◌↔◌, ◌≡◌, refl, length, get_or}
+use Rattle.std.specs.Prelude.{ℕ, ◌+◌, ◌*◌, ◌<◌, List, ◌↔◌, ◌≡◌, refl, length, get_or}
 use Rattle.std.proofs.Common.{sym, ap, ◌∙◌, subst, arith}
 use Rattle.frames.specs.Layout.{layout, answer_length}
 use Rattle.frames.specs.declared.Checked.{Checked}
@@ -17,7 +17,6 @@ use Rattle.solver.specs.Laws.Flat.{flat-entry}
 use Rattle.checker.specs.Grading.{program_read, by_answer, verdict_of, bytes_by_answer, answer_of}
 use Rattle.checker.specs.Laws.Grading.{right-verdict, right-bytes}
 use Rattle.checker.specs.Demand1.{Gradable}
-use Rattle.checker.specs.declared.Verdict.{Verdict}
 use Rattle.checker.specs.declared.Verdict.TheVariants.{Accepted, Broken}
 
 -- ---- the statement

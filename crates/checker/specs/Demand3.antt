@@ -4,7 +4,7 @@
 -- (c) write found grades into an accepted text's program as declarations: a text for that is accepted, and every grade is the same.
 -- Assumes nothing.
 use Rattle.std.specs.Prelude.{ℕ, ◌+◌, ◌*◌, ◌/◌, ◌%◌, ◌≤◌, ◌<◌, List, ◌≡◌, refl, length, get_or}
-use Rattle.std.proofs.Common.{sym, ap, ap₂, ◌∙◌, subst, le_of_eq, le_trans, arith}
+use Rattle.std.proofs.Common.{sym, ap, ◌∙◌, arith}
 use Rattle.std.proofs.Math.Decide.{dec_lt}
 use Rattle.std.proofs.Math.ListN.{get_or-eq_default}
 use Rattle.frames.specs.Layout.{layout, answer_length}
@@ -19,7 +19,6 @@ use Rattle.solver.specs.Laws.Flat.{flat-length, flat-at, flat-entry}
 use Rattle.checker.specs.Grading.{program_read, by_answer, verdict_of, bytes_by_answer, answer_of}
 use Rattle.checker.specs.Demand1.{Gradable}
 use Rattle.checker.specs.Demand2.{says, bytes}
-use Rattle.checker.specs.declared.Verdict.{Verdict}
 use Rattle.checker.specs.declared.Verdict.TheVariants.{Accepted, Broken}
 
 -- ---- the statement

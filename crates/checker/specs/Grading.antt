@@ -8,7 +8,6 @@ use Rattle.frames.specs.Frames.{frames_of}
 use Rattle.frames.specs.Tables.{program_of}
 use Rattle.frames.specs.Reading.{read_text}
 use Rattle.frames.specs.declared.Outcome.{Outcome}
-use Rattle.frames.specs.declared.Outcome.TheVariants as Outcome
 use Rattle.meaning.specs.Lowest.{method_count}
 use Rattle.meaning.specs.Constraints.{Answer, accepted, refused, answer, entry_of}
 use Rattle.solver.specs.Flat.{flat}

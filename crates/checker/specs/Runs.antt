@@ -2,12 +2,12 @@
 -- answer as the grades: every run of the program that the text reads as is disciplined, and it is serialised for the invocations that the answer's bytes
 -- grade at most atomic at the held set that they were called with. `running` says what a run is.
 -- Assumes nothing.
-use Rattle.std.specs.Prelude.{ℕ, ◌+◌, ◌*◌, ◌^◌, ◌≤◌, ◌<◌, List, ◌≡◌, length, get_or}
-use Rattle.std.proofs.Common.{sym, ap, ◌∙◌, subst, le_of_eq, arith, pow_mono}
+use Rattle.std.specs.Prelude.{ℕ, ◌+◌, ◌*◌, ◌^◌, ◌≤◌, ◌<◌, List, ◌≡◌, get_or}
+use Rattle.std.proofs.Common.{sym, ap, ◌∙◌, subst, le_of_eq, pow_mono}
 use Rattle.std.proofs.Math.Nat.{lt_of_lt_of_le}
 use Rattle.grades.specs.HeldSets.{entries}
 use Rattle.lines.specs.Lines.{lines}
-use Rattle.frames.specs.Program.{Program, method_at}
+use Rattle.frames.specs.Program.{method_at}
 use Rattle.frames.specs.Layout.{layout}
 use Rattle.frames.specs.WellFormed.{WellFormed}
 use Rattle.frames.specs.Laws.WellFormed.{well-formed}

@@ -1,5 +1,1 @@
-pub mod Clauses
 mod Filling
-pub mod Lending
-pub mod Loops
-mod Records

@@ -10,7 +10,6 @@ use Rattle.meaning.specs.Constraints.{named_method}
 use Rattle.reasons.specs.Steps.{body_reason}
 use Rattle.checker.specs.Grading.{program_read, verdict_of}
 use Rattle.checker.specs.declared.Verdict.{Verdict}
-use Rattle.checker.specs.declared.Verdict.TheVariants as Verdict
 use Rattle.explainer.specs.declared.walk.Step.{Step}
 use Rattle.explainer.specs.Explain.{step_of, steps_of, bytes_over}
 

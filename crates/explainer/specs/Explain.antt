@@ -10,7 +10,6 @@ use Rattle.reasons.specs.Steps as steps
 use Rattle.reasons.specs.Steps.{reason}
 use Rattle.checker.specs.Grading.{program_read, verdict_of}
 use Rattle.checker.specs.declared.Verdict.{Verdict}
-use Rattle.checker.specs.declared.Verdict.TheVariants as Verdict
 use Rattle.explainer.specs.declared.asked.Reason.{Reason}
 use Rattle.explainer.specs.declared.asked.Reason.TheVariants.{Explained, Overlong, Malformed, Misplaced, OutOfRange, Unlinked, Broken, NoEntry, TooShort}
 use Rattle.explainer.specs.declared.walk.Step.{Step}

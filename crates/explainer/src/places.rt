@@ -10,7 +10,7 @@ use crate::before::first_round;
 use frames::layout::GRADES;
 
 // Where a step stands: a node of a method, under a held set, in a round. `first` is the frame of the method's first node.
-#[derive(Drop)]
+#[derive(Clone, Copy)]
 pub(crate) struct Place {
     pub method: usize,
     pub first: usize,

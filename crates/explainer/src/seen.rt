@@ -15,7 +15,7 @@ use solver::Parts;
 
 // A node's op; its children, of which it lists some, and the set that they are graded under; how many parts it has and their grades, the
 // children's first; the whole's grade; and of a call the callee's held set.
-#[derive(Drop)]
+#[derive(Clone, Copy)]
 pub(crate) struct Seen {
     pub op: usize,
     pub x: usize,

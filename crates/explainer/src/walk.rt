@@ -16,7 +16,7 @@ use crate::turns::turn;
 
 // "Each step gives method, node, held set, round, grade and rule".
 #[repr(C)]
-#[derive(Drop)]
+#[derive(Clone, Copy)]
 pub struct Step {
     pub method: u8,
     pub node: u16,
@@ -71,7 +71,7 @@ pub(crate) fn enter<'a>(tables: &'a [u8], rises: &'a [u16], lower: &mut [u8], at
 }
 
 // Where a chain stands, and whether the grades of the nodes there are worked out. A declared method that is asked for stands at round 0.
-#[derive(Drop)]
+#[derive(Clone, Copy)]
 pub(crate) struct Walk {
     pub at: Place,
     pub entered: bool,

@@ -1,7 +1,5 @@
 -- What the closed constraints come to, as the code hands it over.
 -- Assumes nothing.
-use Rattle.std.specs.Prelude.{ℕ, leb}
-use Rattle.grades.specs.HeldSets.{held}
 use Rattle.meaning.specs.Constraints as constraints
 use Rattle.meaning.specs.Constraints.{method_of, kind_of, node_of}
 use Rattle.solver.specs.declared.constraints.Finding.{Finding}

@@ -1,23 +1,21 @@
 -- `by_lines` meets its contract: what reading comes to, then what the solver finds.
 -- Assumes nothing.
-use mathlib.Core.Path.{◌≡◌, refl, sym, ap, ◌∙◌}
+use mathlib.Core.Path.{◌≡◌, sym, ap, ◌∙◌}
 use lib.ListN.{length}
-use native.Mathlib.Omega.{arith}
 use Rattle.frames.specs.Reading.{read_text}
 use Rattle.frames.specs.declared.Checked.{Checked}
 use Rattle.frames.specs.declared.Outcome.TheVariants as Outcome
 use Rattle.solver.specs.Room.{has_room}
 use Rattle.checker.specs.Code.Steps.{solved_verdict, solved_bytes}
 use Rattle.checker.specs.Laws.Grading.{right-verdict, right-bytes, read-room, read-verdict, read-bytes}
-use borrow.Author.Rules.{rules}
 use Rattle.checker.proofs.by_lines.Goals as goal
 
 pub solved-requires : goal.solved-requires
 solved-requires c = let is = c.read-checked.ensures in (
-      c.requires,
-      ap (λ (x : Checked). has_room x.tables.bytes) is
-          ∙ read-room c.args.text.now (ap (λ (x : Checked). x.outcome) (sym is) ∙ c.in-Whole.is),
-    )
+  c.requires,
+  ap (λ (x : Checked). has_room x.tables.bytes) is
+      ∙ read-room c.args.text.now (ap (λ (x : Checked). x.outcome) (sym is) ∙ c.in-Whole.is),
+)
 
 pub returns-in-Whole : goal.returns-in-Whole
 returns-in-Whole c = let text = c.args.text.now in

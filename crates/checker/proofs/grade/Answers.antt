@@ -2,7 +2,6 @@
 -- Assumes nothing.
 use mathlib.Core.Path.{sym}
 use lib.ListN.{length}
-use borrow.Author.Rules.{rules}
 use Rattle.checker.specs.Laws.Grading.{by_length_lem, wrong-verdict, wrong-bytes, over-verdict, over-bytes}
 use Rattle.checker.proofs.grade.Goals as goal
 

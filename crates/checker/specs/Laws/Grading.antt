@@ -1,6 +1,6 @@
 -- The call's definitions, case by case.
 -- Assumes nothing.
-use Rattle.std.specs.Prelude.{ℕ, ◌≤◌, ◌<◌, Bool, true, cond, List, ◌≡◌, refl, eqb, length}
+use Rattle.std.specs.Prelude.{ℕ, ◌≤◌, ◌<◌, Bool, true, cond, List, ◌≡◌, length}
 use Rattle.std.proofs.Common.{sym, ap, ap₂, ◌∙◌, arith, eq-eqb, ne_eqb, lt-ltb, le-ltb}
 use Rattle.std.proofs.Math.Decide.{dec_lt, ℕ_discrete}
 use Rattle.frames.specs.Program.{Program}
@@ -9,14 +9,12 @@ use Rattle.frames.specs.Reading.{read_text}
 use Rattle.frames.specs.Promises.{tables-stand, read-well-formed, long-exactly}
 use Rattle.frames.specs.declared.Checked.{Checked}
 use Rattle.frames.specs.declared.Outcome.{Outcome}
-use Rattle.frames.specs.declared.Outcome.TheVariants as Outcome
 use Rattle.meaning.specs.Lowest.{method_count}
 use Rattle.meaning.specs.Constraints.{answer}
 use Rattle.solver.specs.Room.{has_room}
 use Rattle.checker.specs.Grading.{program_read, by_answer, by_reading, verdict_of, bytes_by_answer, bytes_by_reading, answer_of}
 use Rattle.checker.specs.Laws.Room.{well-formed-room}
 use Rattle.checker.specs.Code.Steps.{by_length, solved_verdict, solved_bytes}
-use Rattle.checker.specs.declared.Verdict.{Verdict}
 use Rattle.checker.specs.declared.Verdict.TheVariants.{WrongLength, Overlong}
 use Rattle.solver.specs.Flat.{program_in}
 use Rattle.frames.specs.Layout.{layout, answer_length}

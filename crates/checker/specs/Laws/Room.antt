@@ -1,6 +1,6 @@
 -- The engine has room for every text that reads.
 -- Assumes nothing.
-use Rattle.std.specs.Prelude.{ℕ, zero, suc, ◌+◌, ◌-◌, ◌≤◌, ◌<◌, Bool, not, ◌||◌, List, ◌≡◌, leb, length}
+use Rattle.std.specs.Prelude.{ℕ, zero, suc, ◌+◌, ◌-◌, ◌≤◌, ◌<◌, Bool, not, ◌||◌, List, ◌≡◌, length}
 use Rattle.std.proofs.Math.Bool.{true, false, ◌&&◌}
 use Rattle.std.proofs.Math.Path.{refl, ap, ap₂, subst}
 use Rattle.std.proofs.Common.{sym, ◌∙◌, add-one, arith}
@@ -23,7 +23,7 @@ use Rattle.counting.specs.Laws.Counting.{every_of}
 use Rattle.solver.specs.Code.Engine.{first_node_frame, last_frame}
 use Rattle.solver.specs.Laws.Flat.{first_more}
 use Rattle.solver.specs.Room.{names_fit, lock_fits, locks_fit, has_room}
-use Rattle.counting.specs.Counting.{total, every}
+use Rattle.counting.specs.Counting.{total}
 use Rattle.counting.specs.Laws.Lists.{get_d_tabulate}
 
 -- a frame among the nodes of the first M methods is some method's node

@@ -14,7 +14,6 @@ use Rattle.frames.specs.Program.{Program, method_at}
 use Rattle.frames.specs.Reading.{read_text}
 use Rattle.frames.specs.declared.Checked.{Checked}
 use Rattle.frames.specs.declared.Outcome.{Outcome}
-use Rattle.frames.specs.declared.Outcome.TheVariants as Outcome
 use Rattle.frames.specs.Promises.{read-well-formed}
 use Rattle.meaning.specs.Meaning.{Assignment, root_of}
 use Rattle.meaning.specs.Lowest.{method_count, entry_count, is_entry, is_declared, rounds, lowest}
@@ -36,7 +35,6 @@ use Rattle.checker.specs.Laws.Room.{well-formed-room}
 use Rattle.checker.specs.Laws.Solved.{accepted-verdict, broken-verdict, has_room_lem}
 use Rattle.checker.specs.Grading.{program_read, by_reading, verdict_of}
 use Rattle.checker.specs.declared.Verdict.{Verdict}
-use Rattle.checker.specs.declared.Verdict.TheVariants as Verdict
 use Rattle.checker.specs.Laws.Grading.{right-verdict, read-room, read-program}
 use Rattle.explainer.specs.declared.asked.Reason.{Reason}
 use Rattle.explainer.specs.declared.asked.Reason.TheVariants.{Explained, Overlong, Malformed, Misplaced, OutOfRange, Unlinked, Broken, NoEntry, TooShort}

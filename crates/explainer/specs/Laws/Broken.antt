@@ -15,7 +15,6 @@ use Rattle.frames.specs.Program.{Node, Method, Program, no_method, plain_node, m
 use Rattle.frames.specs.Reading.{read_text}
 use Rattle.frames.specs.declared.Checked.{Checked}
 use Rattle.frames.specs.declared.Outcome.{Outcome}
-use Rattle.frames.specs.declared.Outcome.TheVariants as Outcome
 use Rattle.meaning.specs.Meaning.{root_of}
 use Rattle.meaning.specs.Lowest.{is_entry, rounds}
 use Rattle.meaning.specs.Constraints.{Entry, named_method}

@@ -1,6 +1,6 @@
 -- Steps given one after another are those of the chain, by number.
 -- Assumes nothing.
-use Rattle.std.specs.Prelude.{ℕ, zero, suc, ◌+◌, ◌-◌, ◌<◌, Bool, true, false, not, List, [], ◌∷◌, ◌≡◌, refl, T, length, get_or, drop}
+use Rattle.std.specs.Prelude.{ℕ, zero, suc, ◌+◌, ◌<◌, Bool, true, false, not, List, [], ◌∷◌, ◌≡◌, refl, T, length, get_or, drop}
 use Rattle.std.proofs.Common.{sym, ap, ◌∙◌, subst, arith, length-drop}
 use Rattle.explainer.specs.declared.walk.Step.{Step}
 use Rattle.explainer.specs.declared.walk.Walk.{Walk}

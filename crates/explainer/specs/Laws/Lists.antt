@@ -8,7 +8,6 @@ use Rattle.frames.specs.Program.{Program}
 use Rattle.meaning.specs.Lowest.{is_entry}
 use Rattle.checker.specs.Grading.{program_read, verdict_of}
 use Rattle.checker.specs.declared.Verdict.{Verdict}
-use Rattle.checker.specs.declared.Verdict.TheVariants as Verdict
 use Rattle.explainer.specs.declared.asked.Reason.{Reason}
 use Rattle.explainer.specs.declared.asked.Reason.TheVariants.{Explained, NoEntry, TooShort}
 use Rattle.explainer.specs.declared.walk.Step.{Step}

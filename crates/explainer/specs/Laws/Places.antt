@@ -16,7 +16,6 @@ use Rattle.frames.specs.Laws.Tables.{nodes-length}
 use Rattle.meaning.specs.Meaning.{root_of}
 use Rattle.meaning.specs.Lowest.{method_count, rounds}
 use Rattle.meaning.specs.Constraints.{Entry}
-use Rattle.reasons.specs.Steps as steps
 use Rattle.reasons.specs.Steps.{node_here, first_round, root_place}
 use Rattle.reasons.proofs.Laws.Turns.{PlaceFits}
 use Rattle.reasons.proofs.Laws.Rises.{entry-grade}

@@ -7,7 +7,6 @@ use Rattle.std.proofs.Math.Path.{ap}
 use Rattle.std.proofs.Math.Decide.{ℕ_discrete}
 use Rattle.std.proofs.lemmas.List.{length-map}
 use Rattle.frames.specs.Program.{method_at}
-use Rattle.reasons.specs.Steps as steps
 use Rattle.reasons.specs.Steps.{Next, ends, goes_on, step_at, turn_at, later, chain_from, most_steps, declared_step, tables_before}
 use Rattle.reasons.specs.Reason.{Linked, child, callee, child_of_two, callee_of_two}
 use Rattle.reasons.proofs.Laws.Ends.{step_by, onward, chain-step, chain-within}

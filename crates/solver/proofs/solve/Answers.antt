@@ -7,7 +7,6 @@ use Rattle.meaning.specs.Lowest.{method_count, rounds, lowest}
 use Rattle.solver.specs.declared.Solved.{Solved}
 use Rattle.solver.specs.declared.constraints.Finding.{Finding}
 use Prim.Native.Nat.{ℕ}
-use borrow.Author.Tests.{not-true, not-false}
 use Rattle.meaning.specs.Meaning.{Assignment}
 use Rattle.counting.specs.Counting.{up_to}
 use Rattle.meaning.specs.Constraints.{finding}
@@ -16,7 +15,6 @@ use Rattle.solver.specs.Room.{has_room}
 use Rattle.solver.specs.Laws.Rounds.{lowest-read}
 use Rattle.solver.specs.Solved.{solved_by, solved}
 use Rattle.solver.specs.Laws.Views.{method-count}
-use borrow.Author.Rules.{rules}
 use Rattle.solver.specs.Findings.{found}
 use Rattle.solver.specs.Laws.Room.{room_fits}
 use Rattle.solver.proofs.solve.Goals as goal
@@ -35,10 +33,10 @@ pub starts_of-starts-requires : goal.starts_of-starts-requires
 starts_of-starts-requires c = room_fits c.args.tables.now (sym c.has_room.ensures ∙ c.if-not-has_room.false)
 
 pub lowest_of-lowest-requires : goal.lowest_of-lowest-requires
-lowest_of-lowest-requires c =  record { fits = room_fits c.args.tables.now (sym c.has_room.ensures ∙ c.if-not-has_room.false); starts = c.starts_of-starts.ensures }
+lowest_of-lowest-requires c = record { fits = room_fits c.args.tables.now (sym c.has_room.ensures ∙ c.if-not-has_room.false); starts = c.starts_of-starts.ensures }
 
 pub first_broken-finding-requires : goal.first_broken-finding-requires
-first_broken-finding-requires c =  record { fits = room_fits c.args.tables.now (sym c.has_room.ensures ∙ c.if-not-has_room.false); starts = c.starts_of-starts.ensures }
+first_broken-finding-requires c = record { fits = room_fits c.args.tables.now (sym c.has_room.ensures ∙ c.if-not-has_room.false); starts = c.starts_of-starts.ensures }
 
 pub returns : goal.returns
 unfolding solved

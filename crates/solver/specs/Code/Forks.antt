@@ -7,9 +7,6 @@ use Rattle.frames.specs.Program.{Program}
 use Rattle.meaning.specs.Meaning.{Assignment}
 use Rattle.counting.specs.Counting.{first}
 use Rattle.meaning.specs.Lowest.{entry_count}
-use Rattle.meaning.specs.Constraints as constraints
-use Rattle.solver.specs.declared.constraints.Finding.{Finding}
-use Rattle.solver.specs.declared.constraints.Finding.TheVariants.{Met, Broken}
 
 -- the lowest held set at which method u's table is over 3 with its lock 0 held; as many as there are sets if there is none
 unfoldable pub fork_set : Program → Assignment → (u : ℕ) → ℕ

@@ -1,6 +1,6 @@
 -- What the rounds' functions come to, over flat tables.
 -- Assumes nothing.
-use Rattle.std.specs.Prelude.{ℕ, ◌+◌, ◌*◌, ◌/◌, ◌%◌, ◌^◌, ◌≤◌, ◌<◌, Bool, not, List, ◌≡◌, T, length, get_or, replicate}
+use Rattle.std.specs.Prelude.{ℕ, ◌+◌, ◌*◌, ◌^◌, ◌≤◌, ◌<◌, Bool, not, List, ◌≡◌, T, length, get_or}
 use Rattle.frames.specs.Frames.{methods_in}
 use Rattle.frames.specs.Tables.{cell, method_of, first_frame}
 use Rattle.meaning.specs.Lowest.{is_entry, declarations, is_declared, start, round}

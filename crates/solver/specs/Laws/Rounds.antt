@@ -1,6 +1,6 @@
 -- Rounds over flat tables: each is the next of `meaning`'s rounds, and they stop where those do.
 -- Assumes nothing.
-use Rattle.std.specs.Prelude.{ℕ, zero, suc, ◌+◌, ◌*◌, ◌/◌, ◌%◌, ◌≤◌, ◌<◌, Bool, not, List, ◌≡◌, eqb, length, get_or}
+use Rattle.std.specs.Prelude.{ℕ, zero, suc, ◌+◌, ◌*◌, ◌/◌, ◌%◌, ◌≤◌, ◌<◌, Bool, not, List, ◌≡◌, get_or}
 use Rattle.std.proofs.Math.Bool.{true, false, cond}
 use Rattle.std.proofs.Math.Path.{refl, sym, ap, subst, fun_ext}
 use Rattle.std.proofs.Common.{◌∙◌, subst₂, mul-suc, eq-eqb, T_not}

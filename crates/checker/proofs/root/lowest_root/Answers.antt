@@ -2,7 +2,6 @@
 -- Assumes nothing.
 use Prim.Native.Nat.{ℕ}
 use mathlib.Core.Path.{◌≡◌, refl, sym, ap, ◌∙◌}
-use borrow.Author.Rules.{rules}
 use Rattle.frames.specs.Program.{Program}
 use Rattle.frames.specs.Reading.{read_text}
 use Rattle.frames.specs.declared.Checked.{Checked}

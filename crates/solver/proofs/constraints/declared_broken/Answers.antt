@@ -2,10 +2,7 @@
 -- Assumes nothing.
 use mathlib.Core.Path.{◌≡◌}
 use native.Mathlib.Omega.{arith}
-use borrow.Author.Rules.{rules}
-use Prim.Native.Nat.{ℕ, ◌-◌, ◌≤◌, ◌<◌}
 use borrow.Author.Count.{below_more}
-use Rattle.meaning.specs.Meaning.{root_table}
 use Rattle.meaning.specs.Lowest.{declared_table}
 use Rattle.solver.specs.Laws.Findings.{declared-is, declared-entry, sets-few}
 use Rattle.solver.specs.Flat.{program_in, tables_in}

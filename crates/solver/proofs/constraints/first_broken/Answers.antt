@@ -2,18 +2,15 @@
 -- Assumes nothing.
 use mathlib.Core.Path.{◌≡◌, sym, ap, ◌∙◌}
 use native.Mathlib.Omega.{arith}
-use borrow.Author.Rules.{rules}
 use denote.Enum.Declared.{tag_of, declared}
-use Prim.Native.Nat.{ℕ, ◌+◌, ◌-◌, ◌≤◌, ◌<◌}
+use Prim.Native.Nat.{ℕ, ◌+◌, ◌-◌, ◌<◌}
 use mathlib.Core.List.{◌++◌}
-use mathlib.Core.Logic.{◌⊎◌, ⊎_elim}
 use Rattle.frames.specs.Frames.{methods_in}
 use Rattle.frames.specs.Tables.{cell}
 use Rattle.counting.specs.Counting.{up_to}
 use Rattle.meaning.specs.Constraints.{first_broken, closed_of, finding}
 use Rattle.solver.specs.Laws.Findings.{lists_from, methods-all, lists-next, lists-end, second-broken, first-kept}
 use Rattle.solver.specs.declared.constraints.Finding.{Finding}
-use Rattle.solver.specs.declared.constraints.Finding.TheVariants.{Met}
 use Rattle.solver.specs.contracts.constraints.Finding.{enum}
 use Rattle.solver.specs.Flat.{program_in, tables_in}
 use Rattle.solver.specs.Findings.{found}
@@ -25,11 +22,11 @@ tag v = tag_of (declared enum) v
 
 pub loop-m-init : goal.loop-m-init
 loop-m-init c = let a = c.args in (
-      c.methods-methods.ensures.is,
-      omega arith,
-      ap (λ (n : ℕ). finding (program_in a.tables.now) (tables_in a.grades.now) (up_to n)) (sym c.methods-methods.ensures.is)
-          ∙ methods-all (program_in a.tables.now) (tables_in a.grades.now) c.methods-methods.result,
-    )
+  c.methods-methods.ensures.is,
+  omega arith,
+  ap (λ (n : ℕ). finding (program_in a.tables.now) (tables_in a.grades.now) (up_to n)) (sym c.methods-methods.ensures.is)
+      ∙ methods-all (program_in a.tables.now) (tables_in a.grades.now) c.methods-methods.result,
+)
 
 pub offset_bounds-starts-m : goal.offset_bounds-starts-m
 offset_bounds-starts-m c = omega (arith, c.requires.fits.methods, c.loop-m.invariant.0)

@@ -1,20 +1,11 @@
-use mathlib.Core.Path.{◌≡◌, sym, ap, ◌∙◌}
-use native.Mathlib.Omega.{arith}
-use borrow.Author.Rules.{rules}
-use denote.Enum.Declared.{tag_of, declared}
-use Prim.Native.Nat.{ℕ, ◌+◌, ◌-◌, ◌≤◌, ◌<◌}
-use mathlib.Core.List.{◌++◌}
-use mathlib.Core.Logic.{◌⊎◌, ⊎_elim}
+use mathlib.Core.Path.{◌≡◌}
+use Prim.Native.Nat.{◌-◌, ◌≤◌}
 use Rattle.frames.specs.Frames.{methods_in}
 use Rattle.frames.specs.Tables.{cell}
 use Rattle.counting.specs.Counting.{up_to}
 use Rattle.meaning.specs.Constraints.{first_broken, closed_of, finding}
-use Rattle.solver.specs.Laws.Findings.{lists_from, methods-all, lists-next, lists-end, second-broken, first-kept}
-use Rattle.solver.specs.declared.constraints.Finding.{Finding}
-use Rattle.solver.specs.declared.constraints.Finding.TheVariants.{Met}
-use Rattle.solver.specs.contracts.constraints.Finding.{enum}
+use Rattle.solver.specs.Laws.Findings.{lists_from}
 use Rattle.solver.specs.Flat.{program_in, tables_in}
-use Rattle.solver.specs.Findings.{found}
 use Rattle.solver.proofs.constraints.first_broken.Given as goal
 
 abbrev pub invariant-loop-m : goal.invariant-loop-m

@@ -2,9 +2,6 @@
 -- Assumes nothing.
 use mathlib.Core.Path.{sym, ◌∙◌}
 use native.Mathlib.Omega.{arith}
-use borrow.Author.Rules.{rules}
-use mathlib.Core.Logic.{⊎_elim}
-use Prim.Native.Nat.{ℕ, ◌-◌, ◌≤◌, ◌<◌}
 use borrow.Author.Count.{below_more}
 use Rattle.solver.specs.Laws.Findings.{Quiet, quiet-low, quiet-free, fork-is, sets-few}
 use Rattle.solver.specs.Flat.{program_in, tables_in}
@@ -29,7 +26,7 @@ loop-held-preserved c = let a = c.args in
     let at = c.loop-held in
     let here : Quiet g a.u at.held
     = elim c.if-entry_at-gt3.branch [
-      then-entry_at-gt3+else-holds w ↦ quiet-free g a.u at.held (sym w.holds.ensures ∙ w.if-holds.false)
+      | then-entry_at-gt3+else-holds w ↦ quiet-free g a.u at.held (sym w.holds.ensures ∙ w.if-holds.false)
       | else-entry_at-gt3 w ↦ quiet-low g a.u at.held (omega (arith, c.entry_at.ensures, w.if-entry_at-gt3.false))
     ] in
     (omega arith, below_more _ _ at.invariant.1 here)

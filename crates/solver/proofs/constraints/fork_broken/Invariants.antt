@@ -1,11 +1,6 @@
-use mathlib.Core.Path.{sym, ◌∙◌}
-use native.Mathlib.Omega.{arith}
-use borrow.Author.Rules.{rules}
-use mathlib.Core.Logic.{⊎_elim}
 use Prim.Native.Nat.{ℕ, ◌-◌, ◌≤◌, ◌<◌}
-use borrow.Author.Count.{below_more}
-use Rattle.solver.specs.Laws.Findings.{Quiet, quiet-low, quiet-free, fork-is, sets-few}
-use Rattle.solver.specs.Flat.{program_in, tables_in}
+use Rattle.solver.specs.Laws.Findings.{Quiet}
+use Rattle.solver.specs.Flat.{tables_in}
 use Rattle.solver.proofs.constraints.fork_broken.Given as goal
 
 abbrev pub invariant-loop-held : goal.invariant-loop-held

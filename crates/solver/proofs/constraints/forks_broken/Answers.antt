@@ -2,13 +2,11 @@
 -- Assumes nothing.
 use mathlib.Core.Path.{◌≡◌, sym, ap, ◌∙◌}
 use native.Mathlib.Omega.{arith}
-use borrow.Author.Rules.{rules}
-use Prim.Native.Nat.{◌+◌, ◌-◌, ◌≤◌, ◌<◌}
-use mathlib.Core.Logic.{⊎_elim}
+use Prim.Native.Nat.{◌+◌, ◌-◌, ◌<◌}
 use Rattle.frames.specs.Links.{node_count}
 use Rattle.frames.specs.Tables.{cell}
 use Rattle.frames.specs.Laws.Tables.{nodes-length}
-use Rattle.meaning.specs.Constraints.{first_broken, forks_of, fork_at, forked_table, named_method}
+use Rattle.meaning.specs.Constraints.{first_broken, fork_at, forked_table, named_method}
 use Rattle.counting.specs.Counting.{only_if}
 use mathlib.Core.List.{◌++◌}
 use Rattle.meaning.specs.Lowest.{entry_count}
@@ -29,7 +27,7 @@ loop-n-init c = let a = c.args in
     )
 
 pub fork_broken-set-requires : goal.fork_broken-set-requires
-fork_broken-set-requires c =  record { fits = c.requires.fits; u_bound = c.used-u.ensures.small; count_value = c.sets_of-count.ensures }
+fork_broken-set-requires c = record { fits = c.requires.fits; u_bound = c.used-u.ensures.small; count_value = c.sets_of-count.ensures }
 
 pub returns-then-set-count : goal.returns-then-set-count
 returns-then-set-count c = let a = c.args in
@@ -60,14 +58,14 @@ loop-n-preserved c = let a = c.args in
     let rest = lists_from (fork_of p a.m) (at.n + 1) (nodes - (at.n + 1)) in
     let passed : first_broken p g (only_if (fork_at p a.m at.n) (forked_table a.m at.n) ++ rest) ≡ first_broken p g rest
     = elim c.if-op-eq9.branch [
-      then-op-eq9+else-set-count w ↦
-        let named : w.used-u.result ≡ named_method p a.m at.n = fork-names t a.m a.first at.n given.at inside w.used-u.result w.used-u.ensures.is in
-        if-met p g (fork_at p a.m at.n) (forked_table a.m at.n) rest w.fork_broken-set.result
-        (is-fork t a.m a.first at.n given.at inside c.op.result c.op.ensures.is w.if-op-eq9.true)
-        (w.fork_broken-set.ensures ∙ fork-set p g a.m at.n w.used-u.result named)
-        (omega (arith, w.sets_of-count.ensures, ap (entry_count p) named, w.if-set-count.false))
+      | then-op-eq9+else-set-count w ↦
+          let named : w.used-u.result ≡ named_method p a.m at.n = fork-names t a.m a.first at.n given.at inside w.used-u.result w.used-u.ensures.is in
+          if-met p g (fork_at p a.m at.n) (forked_table a.m at.n) rest w.fork_broken-set.result
+          (is-fork t a.m a.first at.n given.at inside c.op.result c.op.ensures.is w.if-op-eq9.true)
+          (w.fork_broken-set.ensures ∙ fork-set p g a.m at.n w.used-u.result named)
+          (omega (arith, w.sets_of-count.ensures, ap (entry_count p) named, w.if-set-count.false))
       | else-op-eq9 w ↦ if-not p g (fork_at p a.m at.n) (forked_table a.m at.n) rest
-        (no-fork t a.m a.first at.n given.at inside c.op.result c.op.ensures.is w.if-op-eq9.false)
+          (no-fork t a.m a.first at.n given.at inside c.op.result c.op.ensures.is w.if-op-eq9.false)
     ] in (
       at.invariant.0,
       at.invariant.1,

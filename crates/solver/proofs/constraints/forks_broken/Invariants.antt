@@ -1,18 +1,10 @@
-use mathlib.Core.Path.{◌≡◌, sym, ap, ◌∙◌}
-use native.Mathlib.Omega.{arith}
-use borrow.Author.Rules.{rules}
-use Prim.Native.Nat.{◌+◌, ◌-◌, ◌≤◌, ◌<◌}
-use mathlib.Core.Logic.{⊎_elim}
+use mathlib.Core.Path.{◌≡◌}
+use Prim.Native.Nat.{◌-◌, ◌≤◌, ◌<◌}
 use Rattle.frames.specs.Links.{node_count}
 use Rattle.frames.specs.Tables.{cell}
-use Rattle.frames.specs.Laws.Tables.{nodes-length}
-use Rattle.meaning.specs.Constraints.{first_broken, forks_of, fork_at, forked_table, named_method}
-use Rattle.counting.specs.Counting.{only_if}
-use mathlib.Core.List.{◌++◌}
-use Rattle.meaning.specs.Lowest.{entry_count}
-use Rattle.solver.specs.Laws.Findings.{lists_from, fork_of, forks-all, lists-next, lists-end, is-fork, no-fork, fork-names, fork-set, if-not, if-broken, if-met}
+use Rattle.meaning.specs.Constraints.{first_broken, forks_of}
+use Rattle.solver.specs.Laws.Findings.{lists_from, fork_of}
 use Rattle.solver.specs.Flat.{program_in, tables_in}
-use Rattle.solver.specs.Findings.{found}
 use Rattle.solver.proofs.constraints.forks_broken.Given as goal
 
 abbrev pub invariant-loop-n : goal.invariant-loop-n

@@ -2,7 +2,6 @@
 -- Assumes nothing.
 use native.Mathlib.Omega.{arith}
 use Rattle.solver.specs.Laws.Findings.{main-broken, main-met}
-use borrow.Author.Rules.{rules}
 use Rattle.solver.specs.Flat.{program_in, tables_in}
 use Rattle.solver.proofs.constraints.main_broken.Goals as goal
 

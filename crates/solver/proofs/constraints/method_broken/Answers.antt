@@ -2,7 +2,6 @@
 -- Assumes nothing.
 use mathlib.Core.Path.{◌≡◌, sym, ap, ◌∙◌}
 use native.Mathlib.Omega.{arith}
-use mathlib.Core.Logic.{⊎_elim}
 use mathlib.Core.List.{◌++◌}
 use borrow.Author.Tests.{eq-eqb, ne_eqb}
 use lib.Dec.{eqb}
@@ -11,7 +10,6 @@ use Rattle.meaning.specs.Constraints.{first_broken, closed_of, forks_of, declare
 use Rattle.meaning.specs.Lowest.{is_declared}
 use Rattle.solver.specs.Laws.Flat.{fixed-declared}
 use Rattle.solver.specs.Laws.Findings.{if-not, if-broken, if-met}
-use borrow.Author.Rules.{rules}
 use Rattle.solver.specs.Flat.{program_in, tables_in}
 use Rattle.solver.specs.Findings.{found}
 use Rattle.solver.proofs.constraints.method_broken.Goals as goal
@@ -31,7 +29,7 @@ declared-passed c =
     let own = fixed-declared t given.fits a.m given.at.method ∙ sym c.declared.ensures in
     let rest = only_if (eqb a.m 0) main_table ++ forks_of p a.m in
     elim c.if-declared.branch [
-      then-declared+else-set-count w ↦ if-met p g (is_declared p a.m) (declared_root a.m) rest w.declared_broken-set.result (own ∙ w.if-declared.true) w.declared_broken-set.ensures (omega (arith, w.sets_of-count.ensures, w.if-set-count.false))
+      | then-declared+else-set-count w ↦ if-met p g (is_declared p a.m) (declared_root a.m) rest w.declared_broken-set.result (own ∙ w.if-declared.true) w.declared_broken-set.ensures (omega (arith, w.sets_of-count.ensures, w.if-set-count.false))
       | else-declared w ↦ if-not p g (is_declared p a.m) (declared_root a.m) rest (own ∙ w.if-declared.false)
     ]
 
@@ -62,6 +60,6 @@ returns c = let a = c.args in
     ∙ ap found
     (sym (declared-passed (goal.at.returns c).Joined-declared
     ∙ elim c.if-m-eq0.branch [
-      then-m-eq0+else-main_broken-lt1 w ↦ if-met p g (eqb a.m 0) main_table (forks_of p a.m) w.main_broken.result (eq-eqb a.m 0 w.if-m-eq0.true) w.main_broken.ensures w.if-main_broken-lt1.false
+      | then-m-eq0+else-main_broken-lt1 w ↦ if-met p g (eqb a.m 0) main_table (forks_of p a.m) w.main_broken.result (eq-eqb a.m 0 w.if-m-eq0.true) w.main_broken.ensures w.if-main_broken-lt1.false
       | else-m-eq0 w ↦ if-not p g (eqb a.m 0) main_table (forks_of p a.m) (ne_eqb a.m 0 w.if-m-eq0.false)
     ]))

@@ -1,9 +1,6 @@
 -- `solver::constraints::sets_of` meets its contract: as many sets as the names that were taken have.
 -- Assumes nothing.
-use mathlib.Core.Path.{◌≡◌, refl, sym, ap, ap₂, ◌∙◌, subst}
-use native.Mathlib.Omega.{arith}
 use Rattle.solver.specs.Laws.Findings.{sets-read}
-use borrow.Author.Rules.{rules}
 use Rattle.solver.proofs.constraints.sets_of.Goals as goal
 
 pub returns : goal.returns

@@ -1,16 +1,15 @@
 -- The proof of the cycle of calls {largest_entry}. The measure is how many names are left. One name's answer is put before the sets of the others;
 -- FF's two answers both are, and the larger entry is taken.
 -- Assumes nothing.
-use borrow.Author.Rules.{rules}
 use native.Mathlib.Omega.{arith}
 use mathlib.Core.Bool.{Bool, true, false, cond}
 use mathlib.Core.Path.{◌≡◌, sym, ap, ap₂, ◌∙◌}
-use lib.ListN.{length, drop}
+use lib.ListN.{drop}
 use Rattle.solver.specs.Flat.{tables_in}
 use Rattle.meaning.specs.Meaning.{matching, largest}
 use Rattle.solver.specs.Code.Engine.{entries_from}
 use Rattle.solver.specs.Laws.Views.{answered-below, entries_after, entries-end, entries-unnamed, entries-named}
-use Prim.Native.Nat.{ℕ, ◌+◌, ◌*◌, ◌-◌, ◌^◌, ◌<◌, max}
+use Prim.Native.Nat.{ℕ, ◌+◌, ◌*◌, ◌^◌, max}
 use Rattle.solver.proofs.node.+largest_entry.Goals as goal
 
 pub returns-then-names-j : goal.returns-then-names-j

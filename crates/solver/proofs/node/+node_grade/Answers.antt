@@ -1,7 +1,5 @@
 -- The proof of the cycle of calls {node_grade}. The measure is the node's number, which falls to each child.
 -- Assumes nothing.
-use borrow.Author.Rules.{rules}
-use mathlib.Core.Logic.{⊎_elim}
 use native.Mathlib.Omega.{arith}
 use Prim.Native.Nat.{ℕ, ◌+◌, ◌<◌}
 use mathlib.Core.Path.{◌≡◌, sym, ◌∙◌}
@@ -39,17 +37,17 @@ returns t c = let a = c.args in
     let lock : ((nodes a.n).op ≡ 6 → first_name (nodes a.n).names < mask_names) = given.locks_fit (a.first + a.n) (omega (arith, given.tables_bound.0)) given.tables_bound.1 in
     let X : c.if-node-n.a ≡ below p g nodes a.n parts.result.x parts.result.under
     = elim c.if-node-n.branch [
-      then-node-n w ↦ w.a-is ∙ w.node_grade-a.ensures ∙ sym (below-meaning p g nodes a.n parts.result.x parts.result.under w.if-node-n.true)
+      | then-node-n w ↦ w.a-is ∙ w.node_grade-a.ensures ∙ sym (below-meaning p g nodes a.n parts.result.x parts.result.under w.if-node-n.true)
       | else-node-n w ↦ w.a-is ∙ sym (below_none p g nodes a.n parts.result.x parts.result.under w.if-node-n.false)
     ] in
     let Y : c.if-node-n-2.b ≡ below p g nodes a.n parts.result.y parts.result.under
     = elim c.if-node-n-2.branch [
-      then-node-n-2 w ↦ w.b-is ∙ w.node_grade-b.ensures ∙ sym (below-meaning p g nodes a.n parts.result.y parts.result.under w.if-node-n-2.true)
+      | then-node-n-2 w ↦ w.b-is ∙ w.node_grade-b.ensures ∙ sym (below-meaning p g nodes a.n parts.result.y parts.result.under w.if-node-n-2.true)
       | else-node-n-2 w ↦ w.b-is ∙ sym (below_none p g nodes a.n parts.result.y parts.result.under w.if-node-n-2.false)
     ] in
     let Z : c.if-node-n-3.c ≡ below p g nodes a.n parts.result.z parts.result.under
     = elim c.if-node-n-3.branch [
-      then-node-n-3 w ↦ w.c-is ∙ w.node_grade-c.ensures ∙ sym (below-meaning p g nodes a.n parts.result.z parts.result.under w.if-node-n-3.true)
+      | then-node-n-3 w ↦ w.c-is ∙ w.node_grade-c.ensures ∙ sym (below-meaning p g nodes a.n parts.result.z parts.result.under w.if-node-n-3.true)
       | else-node-n-3 w ↦ w.c-is ∙ sym (below_none p g nodes a.n parts.result.z parts.result.under w.if-node-n-3.false)
     ] in
     assembled p g nodes a.n a.set parts.result.op parts.result.under parts.result.x parts.result.y parts.result.z parts.result.own

@@ -6,7 +6,6 @@ use Prim.Native.Nat.{◌+◌, ◌^◌}
 use native.Mathlib.Omega.{arith}
 use native.Mathlib.Nat.{le_refl}
 use borrow.Author.Tests.{lt-ltb}
-use borrow.Author.Rules.{rules}
 use Rattle.grades.specs.HeldSets.{add, add_within}
 use Rattle.grades.proofs.Laws.HeldSets.{held-past, add_free}
 use Rattle.solver.proofs.node.answered.Goals as goal

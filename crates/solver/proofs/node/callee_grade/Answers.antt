@@ -5,7 +5,6 @@ use native.Mathlib.Omega.{arith}
 use lib.ListN.{length-take}
 use Rattle.solver.specs.Flat.{tables_in}
 use Rattle.solver.specs.Laws.Views.{entry_read}
-use borrow.Author.Rules.{rules}
 use Rattle.solver.proofs.node.callee_grade.Goals as goal
 
 pub slice_bounds-names-end : goal.slice_bounds-names-end

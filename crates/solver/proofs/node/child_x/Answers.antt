@@ -5,7 +5,6 @@ use borrow.Author.Tests.{lt-ltb, le-ltb}
 use lib.Dec.{ltb}
 use Rattle.solver.specs.Nodes.{node_in, no_child}
 use Rattle.solver.specs.Laws.Engine.{child-first, cond_yes, cond_no}
-use borrow.Author.Rules.{rules}
 use Rattle.solver.proofs.node.child_x.Goals as goal
 
 pub returns-then-listed-gt0 : goal.returns-then-listed-gt0

@@ -2,11 +2,9 @@
 -- Assumes nothing.
 use mathlib.Core.Path.{sym, ap, ◌∙◌}
 use Rattle.meaning.specs.Meaning.{op_of}
-use Rattle.solver.specs.Nodes.{combined}
 use Rattle.grades.specs.Grades.{compose, closure}
 use Rattle.solver.specs.Laws.Engine.{combined-plain, combined-past}
 use Prim.Native.Nat.{ℕ}
-use borrow.Author.Rules.{rules}
 use Rattle.solver.proofs.node.combined.Goals as goal
 
 pub returns-in-4 : goal.returns-in-4

@@ -5,7 +5,6 @@ use borrow.Author.Tests.{lt-ltb, le-ltb}
 use lib.ListN.{get_or-eq_default}
 use Rattle.solver.specs.Flat.{tables_in}
 use Rattle.frames.specs.Layout.{layout}
-use borrow.Author.Rules.{rules}
 use Rattle.solver.proofs.node.entry_at.Goals as goal
 
 pub returns-then-h-ge-GRADES : goal.returns-then-h-ge-GRADES

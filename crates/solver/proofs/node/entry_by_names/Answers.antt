@@ -1,17 +1,16 @@
 -- `solver::node::entry_by_names` meets its contract. The loop's invariant: of the sets that match, those are left that have `inside` of the names
 -- passed, each of which allowed one answer.
 -- Assumes nothing.
-use Prim.Native.Nat.{ℕ, ◌+◌, ◌-◌, ◌^◌, ◌≤◌, ◌<◌}
-use mathlib.Core.Path.{◌≡◌, sym, ap, ◌∙◌}
+use Prim.Native.Nat.{ℕ, ◌+◌, ◌^◌, ◌≤◌, ◌<◌}
+use mathlib.Core.Path.{sym, ap, ◌∙◌}
 use native.Mathlib.Omega.{arith}
-use lib.ListN.{length, drop}
+use lib.ListN.{drop}
 use lib.Pow.{pow_pos, pow_mono}
 use native.Mathlib.Nat.{lt_of_lt_of_le}
 use Rattle.solver.specs.Flat.{tables_in}
 use Rattle.meaning.specs.Meaning.{matching, largest}
 use Rattle.solver.specs.Code.Engine.{entries_from}
 use Rattle.solver.specs.Laws.Views.{answered-below, entries_after, entries-start, entries-end, entries-named}
-use borrow.Author.Rules.{rules}
 use Rattle.solver.proofs.node.entry_by_names.Goals as goal
 
 pub loop-j-init : goal.loop-j-init

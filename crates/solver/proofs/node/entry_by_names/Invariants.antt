@@ -1,14 +1,9 @@
-use Prim.Native.Nat.{ℕ, ◌+◌, ◌-◌, ◌^◌, ◌≤◌, ◌<◌}
-use mathlib.Core.Path.{◌≡◌, sym, ap, ◌∙◌}
-use native.Mathlib.Omega.{arith}
+use Prim.Native.Nat.{◌-◌, ◌^◌, ◌≤◌, ◌<◌}
+use mathlib.Core.Path.{◌≡◌}
 use lib.ListN.{length, drop}
-use lib.Pow.{pow_pos, pow_mono}
-use native.Mathlib.Nat.{lt_of_lt_of_le}
 use Rattle.solver.specs.Flat.{tables_in}
 use Rattle.meaning.specs.Meaning.{matching, largest}
 use Rattle.solver.specs.Code.Engine.{entries_from}
-use Rattle.solver.specs.Laws.Views.{answered-below, entries_after, entries-start, entries-end, entries-named}
-use borrow.Author.Rules.{rules}
 use Rattle.solver.proofs.node.entry_by_names.Given as goal
 
 abbrev pub invariant-loop-j : goal.invariant-loop-j

@@ -9,7 +9,6 @@ use Rattle.frames.specs.Program.{Field}
 use Rattle.frames.specs.Tables.{cell}
 use Rattle.meaning.specs.Meaning.{field_access}
 use Rattle.solver.specs.Laws.Views.{field_past, no-field-access, access-read}
-use borrow.Author.Rules.{rules}
 use Rattle.solver.proofs.node.field_grade.Goals as goal
 
 pub returns-then-fields-u : goal.returns-then-fields-u

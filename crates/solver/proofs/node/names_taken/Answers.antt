@@ -1,14 +1,13 @@
 -- `solver::node::names_taken` meets its contract: a method that the program lacks has no names.
 -- Assumes nothing.
-use mathlib.Core.Path.{◌≡◌, refl, sym, ap, ap₂, ◌∙◌}
+use mathlib.Core.Path.{◌≡◌, sym, ap, ◌∙◌}
 use native.Mathlib.Omega.{arith}
-use Prim.Native.Nat.{ℕ, ◌≤◌, min}
+use Prim.Native.Nat.{◌≤◌, min}
 use Rattle.frames.specs.Layout.{layout}
 use Rattle.frames.specs.Frames.{methods_in}
 use Rattle.frames.specs.Tables.{cell}
 use Rattle.solver.specs.Laws.Views.{method-in, method-past}
 use Rattle.frames.specs.Program.{no_method, method_at, Method}
-use borrow.Author.Rules.{rules}
 use Rattle.solver.specs.Flat.{program_in}
 use Rattle.solver.proofs.node.names_taken.Goals as goal
 

@@ -4,7 +4,6 @@ use mathlib.Core.Path.{sym}
 use Rattle.solver.specs.Nodes.{node_in}
 use Rattle.meaning.specs.Meaning.{op_of}
 use Rattle.solver.specs.Laws.Engine.{own-none}
-use borrow.Author.Rules.{rules}
 use Rattle.solver.specs.Flat.{program_in, tables_in}
 use Rattle.solver.proofs.node.own_grade.Goals as goal
 

@@ -8,7 +8,6 @@ use Rattle.frames.specs.Ranges.{children_listed}
 use Rattle.meaning.specs.Meaning.{op_of, first_name}
 use Rattle.solver.specs.Nodes.{node_in, own_grade, mask_set}
 use Rattle.solver.specs.Laws.Views.{first-name}
-use borrow.Author.Rules.{rules}
 use Rattle.solver.specs.Flat.{program_in, tables_in}
 use Rattle.solver.proofs.node.parts_of.Goals as goal
 

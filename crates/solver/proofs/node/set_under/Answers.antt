@@ -4,7 +4,6 @@ use mathlib.Core.Path.{◌∙◌, sym, ap}
 use mathlib.Core.Bool.{Bool, cond}
 use Rattle.grades.specs.HeldSets.{mask_names, add_within}
 use borrow.Author.Tests.{eq-eqb, ne_eqb}
-use borrow.Author.Rules.{rules}
 use Rattle.solver.specs.Nodes.{mask_set}
 use Rattle.solver.proofs.node.set_under.Goals as goal
 

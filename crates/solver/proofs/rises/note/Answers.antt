@@ -3,12 +3,10 @@
 use mathlib.Core.Path.{◌≡◌, refl, ap, ◌∙◌, subst}
 use native.Mathlib.Omega.{arith}
 use native.Mathlib.Decide.{dec_lt}
-use borrow.Author.Rules.{rules}
-use Prim.Native.Nat.{ℕ, ◌+◌, ◌*◌, ◌-◌, ◌/◌, ◌%◌, ◌≤◌, ◌<◌}
+use Prim.Native.Nat.{ℕ, ◌+◌, ◌*◌, ◌/◌, ◌%◌, ◌<◌}
 use mathlib.Core.List.{List}
-use lib.ListN.{length, get_or}
+use lib.ListN.{get_or}
 use Rattle.frames.specs.Layout.{layout}
-use Rattle.solver.specs.Rises.{rises_length}
 use Rattle.solver.specs.Code.Rises.{noted, NotedAt, Noted}
 use Rattle.solver.proofs.rises.note.Goals as goal
 

@@ -1,13 +1,9 @@
-use mathlib.Core.Path.{◌≡◌, refl, ap, ◌∙◌, subst}
-use native.Mathlib.Omega.{arith}
-use native.Mathlib.Decide.{dec_lt}
-use borrow.Author.Rules.{rules}
-use Prim.Native.Nat.{ℕ, ◌+◌, ◌*◌, ◌-◌, ◌/◌, ◌%◌, ◌≤◌, ◌<◌}
-use mathlib.Core.List.{List}
-use lib.ListN.{length, get_or}
+use mathlib.Core.Path.{◌≡◌}
+use Prim.Native.Nat.{◌*◌, ◌-◌, ◌≤◌}
+use lib.ListN.{length}
 use Rattle.frames.specs.Layout.{layout}
 use Rattle.solver.specs.Rises.{rises_length}
-use Rattle.solver.specs.Code.Rises.{noted, NotedAt, Noted}
+use Rattle.solver.specs.Code.Rises.{Noted}
 use Rattle.solver.proofs.rises.note.Given as goal
 
 abbrev pub invariant-loop-e : goal.invariant-loop-e

@@ -3,13 +3,11 @@
 use mathlib.Core.Path.{◌≡◌, refl, ap, ◌∙◌, subst}
 use native.Mathlib.Omega.{arith}
 use native.Mathlib.Decide.{dec_lt}
-use borrow.Author.Rules.{rules}
-use Prim.Native.Nat.{ℕ, ◌+◌, ◌*◌, ◌-◌, ◌≤◌, ◌<◌}
+use Prim.Native.Nat.{ℕ, ◌+◌, ◌*◌, ◌<◌}
 use mathlib.Core.List.{List}
 use lib.ListN.{length, get_or, set, length-set}
 use lib.Seq.{get_or-set_same, get_or-set_other}
 use Rattle.frames.specs.Layout.{layout}
-use Rattle.solver.specs.Rises.{rises_length}
 use Rattle.solver.specs.Code.Rises.{noted, NotedAt}
 use Rattle.solver.specs.Laws.Rises.{same_noted}
 use Rattle.solver.proofs.rises.note_entry.Goals as goal

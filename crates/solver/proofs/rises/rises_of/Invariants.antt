@@ -1,24 +1,12 @@
-use mathlib.Core.Path.{◌≡◌, sym, ap, ◌∙◌, subst, subst₂}
-use native.Mathlib.Omega.{arith}
-use borrow.Author.Rules.{rules}
-use Prim.Native.Nat.{ℕ, ◌+◌, ◌*◌, ◌-◌}
-use mathlib.Core.List.{List}
-use lib.ListN.{length, replicate}
-use mathlib.Core.Bool.{Bool, not}
-use lib.Dec.{T}
-use Prim.Native.Nat.{suc}
-use native.Mathlib.Numerals.{add-one}
+use mathlib.Core.Path.{◌≡◌}
+use Prim.Native.Nat.{◌+◌, ◌*◌, ◌-◌}
 use Rattle.frames.specs.Layout.{layout}
 use Rattle.frames.specs.Frames.{methods_in}
 use Rattle.frames.specs.Tables.{cell}
 use Rattle.meaning.specs.Lowest.{rounds}
-use Rattle.solver.specs.Flat.{program_in, blank, flat}
-use Rattle.solver.specs.Rises.{never, rises_length, rises_after, rises}
-use Rattle.solver.specs.Code.Rounds.{Fits, Still, round_tables}
-use Rattle.solver.specs.Code.Rises.{Noted}
-use Rattle.solver.specs.Laws.Flat.{flat-length}
-use Rattle.solver.specs.Laws.Rises.{rises-length, rises-start, rises_next}
-use Rattle.solver.specs.Laws.Rounds.{after_rounds, Rising, start_first, round-next, still_after, rising-more, stopped, stopped-tables, rising-bound, rounds-few, compared}
+use Rattle.solver.specs.Flat.{program_in, flat}
+use Rattle.solver.specs.Rises.{rises_after}
+use Rattle.solver.specs.Laws.Rounds.{after_rounds, Rising}
 use Rattle.solver.proofs.rises.rises_of.Given as goal
 
 abbrev pub invariant-loop-new : goal.invariant-loop-new

@@ -1,10 +1,8 @@
 -- `solver::rises::solve_rises` meets its contract.
 -- Assumes nothing.
 use mathlib.Core.Path.{◌≡◌, sym, ap, ap₂, ◌∙◌}
-use borrow.Author.Rules.{rules}
 use Prim.Native.Nat.{ℕ}
 use mathlib.Core.Bool.{Bool, true}
-use borrow.Author.Tests.{not-true, not-false}
 use Rattle.meaning.specs.Meaning.{Assignment}
 use Rattle.meaning.specs.Lowest.{method_count, rounds, lowest}
 use Rattle.counting.specs.Counting.{up_to}
@@ -35,10 +33,10 @@ pub starts_of-starts-requires : goal.starts_of-starts-requires
 starts_of-starts-requires c = room_fits c.args.tables.now (sym c.has_room.ensures ∙ c.if-not-has_room.false)
 
 pub rises_of-lowest-requires : goal.rises_of-lowest-requires
-rises_of-lowest-requires c =  record { fits = room_fits c.args.tables.now (sym c.has_room.ensures ∙ c.if-not-has_room.false); starts = c.starts_of-starts.ensures }
+rises_of-lowest-requires c = record { fits = room_fits c.args.tables.now (sym c.has_room.ensures ∙ c.if-not-has_room.false); starts = c.starts_of-starts.ensures }
 
 pub first_broken-finding-requires : goal.first_broken-finding-requires
-first_broken-finding-requires c =  record { fits = room_fits c.args.tables.now (sym c.has_room.ensures ∙ c.if-not-has_room.false); starts = c.starts_of-starts.ensures }
+first_broken-finding-requires c = record { fits = room_fits c.args.tables.now (sym c.has_room.ensures ∙ c.if-not-has_room.false); starts = c.starts_of-starts.ensures }
 
 pub returns : goal.returns
 unfolding risen_in

@@ -5,14 +5,12 @@ use native.Mathlib.Omega.{arith}
 use mathlib.Core.Bool.{Bool, ◌&&◌}
 use Prim.Native.Nat.{ℕ, ◌-◌}
 use native.Mathlib.Nat.{zero-add}
-use borrow.Author.Tests.{not-true, not-false}
 use Rattle.frames.specs.Tables.{cell, first_frame}
 use Rattle.frames.specs.Frames.{methods_in}
 use Rattle.solver.specs.Code.Engine.{first_node_frame, last_frame}
 use Rattle.solver.specs.Laws.Flat.{frames-rise}
 use Rattle.solver.specs.Room.{names_fit, locks_fit}
 use Rattle.solver.specs.Laws.Room.{room-methods, room-frames, room-rest}
-use borrow.Author.Rules.{rules}
 use Rattle.solver.proofs.room.has_room.Goals as goal
 
 pub returns-then-methods-gt-MOST_METHODS : goal.returns-then-methods-gt-MOST_METHODS

@@ -1,11 +1,9 @@
 -- `solver::room::locks_fit` meets its contract. The loop's invariant: the nodes passed pass the test.
 -- Assumes nothing.
-use mathlib.Core.Path.{◌≡◌, refl, sym, ap, ◌∙◌}
+use mathlib.Core.Path.{◌≡◌, sym, ap, ◌∙◌}
 use native.Mathlib.Omega.{arith}
-use borrow.Author.Rules.{rules}
 use mathlib.Core.Bool.{true}
-use mathlib.Core.Logic.{⊎_elim}
-use Prim.Native.Nat.{ℕ, ◌+◌, ◌-◌, ◌≤◌, ◌<◌}
+use Prim.Native.Nat.{◌+◌}
 use Rattle.solver.specs.Room.{locks_fit, lock_fits}
 use Rattle.solver.specs.Laws.Room.{locks-none, locks-more, locks-fail, lock-other, lock-in, lock-past}
 use Rattle.solver.proofs.room.locks_fit.Goals as goal
@@ -28,7 +26,7 @@ loop-n-preserved c = let a = c.args in
     let op = c.op in
     let here : lock_fits t (a.first + at.n) ≡ true
     = elim c.if-op-eq6.branch [
-      then-op-eq6+else-name-ge8 w ↦ lock-in t (a.first + at.n) op.result w.name.result op.ensures.is w.name.ensures.is w.if-op-eq6.true w.if-name-ge8.false
+      | then-op-eq6+else-name-ge8 w ↦ lock-in t (a.first + at.n) op.result w.name.result op.ensures.is w.name.ensures.is w.if-op-eq6.true w.if-name-ge8.false
       | else-op-eq6 w ↦ lock-other t (a.first + at.n) op.result op.ensures.is w.if-op-eq6.false
     ] in
     (omega arith, locks-more t a.first at.n at.invariant.1 here)

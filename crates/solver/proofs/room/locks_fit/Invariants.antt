@@ -1,11 +1,7 @@
-use mathlib.Core.Path.{◌≡◌, refl, sym, ap, ◌∙◌}
-use native.Mathlib.Omega.{arith}
-use borrow.Author.Rules.{rules}
+use mathlib.Core.Path.{◌≡◌}
 use mathlib.Core.Bool.{true}
-use mathlib.Core.Logic.{⊎_elim}
-use Prim.Native.Nat.{ℕ, ◌+◌, ◌-◌, ◌≤◌, ◌<◌}
-use Rattle.solver.specs.Room.{locks_fit, lock_fits}
-use Rattle.solver.specs.Laws.Room.{locks-none, locks-more, locks-fail, lock-other, lock-in, lock-past}
+use Prim.Native.Nat.{◌-◌, ◌≤◌}
+use Rattle.solver.specs.Room.{locks_fit}
 use Rattle.solver.proofs.room.locks_fit.Given as goal
 
 abbrev pub invariant-loop-n : goal.invariant-loop-n

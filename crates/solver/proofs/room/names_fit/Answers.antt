@@ -1,10 +1,7 @@
 -- `solver::room::names_fit` meets its contract. The loop's invariant: the numbers passed pass the test.
 -- Assumes nothing.
-use mathlib.Core.Path.{◌≡◌, refl, sym, ap, ◌∙◌}
+use mathlib.Core.Path.{◌≡◌, sym, ap, ◌∙◌}
 use native.Mathlib.Omega.{arith}
-use borrow.Author.Rules.{rules}
-use mathlib.Core.Bool.{true}
-use Prim.Native.Nat.{ℕ, ◌+◌, ◌-◌, ◌≤◌, ◌<◌}
 use Rattle.solver.specs.Room.{names_fit}
 use Rattle.solver.specs.Laws.Room.{names-none, names_more, names-fail}
 use Rattle.solver.proofs.room.names_fit.Goals as goal

@@ -1,10 +1,7 @@
-use mathlib.Core.Path.{◌≡◌, refl, sym, ap, ◌∙◌}
-use native.Mathlib.Omega.{arith}
-use borrow.Author.Rules.{rules}
+use mathlib.Core.Path.{◌≡◌}
 use mathlib.Core.Bool.{true}
-use Prim.Native.Nat.{ℕ, ◌+◌, ◌-◌, ◌≤◌, ◌<◌}
+use Prim.Native.Nat.{◌-◌, ◌≤◌}
 use Rattle.solver.specs.Room.{names_fit}
-use Rattle.solver.specs.Laws.Room.{names-none, names_more, names-fail}
 use Rattle.solver.proofs.room.names_fit.Given as goal
 
 abbrev pub invariant-loop-m : goal.invariant-loop-m

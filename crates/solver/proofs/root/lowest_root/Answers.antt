@@ -4,8 +4,6 @@ use mathlib.Core.Path.{◌≡◌, sym, ap, ◌∙◌}
 use mathlib.Core.Bool.{true}
 use Prim.Native.Nat.{◌<◌}
 use native.Mathlib.Omega.{arith}
-use borrow.Author.Rules.{rules}
-use borrow.Author.Tests.{not-true, not-false}
 use Rattle.frames.specs.Frames.{methods_in}
 use Rattle.frames.specs.Tables.{cell}
 use Rattle.meaning.specs.Meaning.{Assignment, root_table}
@@ -40,8 +38,11 @@ starts_of-starts-requires c = room_fits c.args.tables.now
     (sym c.has_room.ensures ∙ c.if-not-has_room.false)
 
 pub lowest_of-lowest-requires : goal.lowest_of-lowest-requires
-lowest_of-lowest-requires c =  record { fits = room_fits c.args.tables.now
-      (sym c.has_room.ensures ∙ c.if-not-has_room.false); starts = c.starts_of-starts.ensures }
+lowest_of-lowest-requires c = record {
+  fits = room_fits c.args.tables.now
+      (sym c.has_room.ensures ∙ c.if-not-has_room.false);
+  starts = c.starts_of-starts.ensures;
+}
 
 pub bounds-starts-method : goal.bounds-starts-method
 bounds-starts-method c = let t = c.args.tables.now in

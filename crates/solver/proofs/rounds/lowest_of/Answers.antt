@@ -6,11 +6,8 @@ use mathlib.Core.Bool.{Bool, not}
 use lib.Dec.{T}
 use native.Mathlib.Numerals.{add-one}
 use native.Mathlib.Omega.{arith}
-use borrow.Author.Rules.{rules}
-use Prim.Native.Nat.{ℕ, suc, ◌+◌, ◌*◌, ◌-◌}
+use Prim.Native.Nat.{ℕ, suc, ◌*◌}
 use Rattle.frames.specs.Layout.{layout}
-use Rattle.frames.specs.Frames.{methods_in}
-use Rattle.frames.specs.Tables.{cell}
 use Rattle.meaning.specs.Lowest.{rounds}
 use Rattle.solver.specs.Flat.{program_in, flat}
 use Rattle.solver.specs.Laws.Rounds.{after_rounds, Rising, start_first, round-next, still_after, rising-more, stopped, stopped-tables, rising-bound, rounds-few, compared}

@@ -1,17 +1,11 @@
-use mathlib.Core.Path.{◌≡◌, sym, ap, ◌∙◌, subst}
-use mathlib.Core.Bool.{Bool, not}
-use lib.Dec.{T}
-use native.Mathlib.Numerals.{add-one}
-use native.Mathlib.Omega.{arith}
-use borrow.Author.Rules.{rules}
-use Prim.Native.Nat.{ℕ, suc, ◌+◌, ◌*◌, ◌-◌}
+use mathlib.Core.Path.{◌≡◌}
+use Prim.Native.Nat.{◌+◌, ◌*◌, ◌-◌}
 use Rattle.frames.specs.Layout.{layout}
 use Rattle.frames.specs.Frames.{methods_in}
 use Rattle.frames.specs.Tables.{cell}
 use Rattle.meaning.specs.Lowest.{rounds}
 use Rattle.solver.specs.Flat.{program_in, flat}
-use Rattle.solver.specs.Laws.Rounds.{after_rounds, Rising, start_first, round-next, still_after, rising-more, stopped, stopped-tables, rising-bound, rounds-few, compared}
-use Rattle.solver.specs.Code.Rounds.{Still, round_tables}
+use Rattle.solver.specs.Laws.Rounds.{after_rounds, Rising}
 use Rattle.solver.proofs.rounds.lowest_of.Given as goal
 
 abbrev pub invariant-loop-new : goal.invariant-loop-new

@@ -10,7 +10,6 @@ use Rattle.meaning.specs.Meaning.{meaning}
 use Rattle.solver.specs.Code.Engine.{nodes_from}
 use Rattle.solver.specs.Laws.Flat.{root-last, root_none, node-frame, frames-rise}
 use native.Mathlib.Nat.{zero-add}
-use borrow.Author.Rules.{rules}
 use Rattle.solver.specs.Flat.{program_in, tables_in}
 use Rattle.solver.proofs.rounds.root_grade.Goals as goal
 

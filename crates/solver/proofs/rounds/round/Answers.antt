@@ -1,18 +1,13 @@
 -- `solver::rounds::round` meets its contract. The loop's invariant: the tables are worked out for the methods passed.
 -- Assumes nothing.
-use mathlib.Core.Path.{◌≡◌, refl, sym, ap, ap₂, ◌∙◌, subst}
+use mathlib.Core.Path.{◌≡◌, sym, ap, ◌∙◌, subst}
 use native.Mathlib.Omega.{arith}
-use borrow.Author.Rules.{rules}
-use Prim.Native.Nat.{ℕ, ◌+◌, ◌*◌, ◌-◌, ◌≤◌, ◌<◌, ◌^◌}
-use mathlib.Core.List.{List}
-use mathlib.Core.Logic.{⊎_elim}
-use lib.ListN.{length, get_or}
+use Prim.Native.Nat.{ℕ, ◌+◌, ◌*◌, ◌<◌}
 use Rattle.frames.specs.Layout.{layout}
 use Rattle.frames.specs.Frames.{methods_in}
 use Rattle.frames.specs.Tables.{cell}
 use Rattle.solver.specs.Flat.{program_in}
 use lib.Dec.{T}
-use borrow.Author.Tests.{not-true, not-false}
 use Rattle.solver.specs.Laws.Flat.{done_none, done_all, skip-methods, flat-length, no-entry-method, not_entry, fixed-declared}
 use Rattle.meaning.specs.Lowest.{is_entry}
 use Rattle.solver.specs.Code.Rounds.{Done, is_fixed, round_tables}
@@ -38,13 +33,13 @@ loop-m-preserved c = let t = c.args.tables.now in
       at.invariant.0,
       omega arith,
       elim c.if-not-declared.branch [
-        then-not-declared w ↦ subst (Done (layout.grades * (at.m + 1)) (round_tables t old) old) (sym w.new-is)
-          (subst (λ (n : ℕ). Done n (round_tables t old) old w.round_method.new.new) next w.round_method.ensures)
+        | then-not-declared w ↦ subst (Done (layout.grades * (at.m + 1)) (round_tables t old) old) (sym w.new-is)
+            (subst (λ (n : ℕ). Done n (round_tables t old) old w.round_method.new.new) next w.round_method.ensures)
         | else-not-declared w ↦ subst (Done (layout.grades * (at.m + 1)) (round_tables t old) old) (sym w.new-is)
-          (skip-methods at.m (at.m + 1) (round_tables t old) old at.new at.invariant.2 (omega arith)
-          (λ n h l k e. let same : at.m ≡ n = omega arith in
-          given.still.declared n h (omega (arith, given.fits.methods)) e
-          (subst T (sym (fixed-declared t given.fits n (omega arith) ∙ ap (is_fixed t) (sym same) ∙ sym c.declared.ensures ∙ w.if-not-declared.false)) tt)))
+            (skip-methods at.m (at.m + 1) (round_tables t old) old at.new at.invariant.2 (omega arith)
+            (λ n h l k e. let same : at.m ≡ n = omega arith in
+            given.still.declared n h (omega (arith, given.fits.methods)) e
+            (subst T (sym (fixed-declared t given.fits n (omega arith) ∙ ap (is_fixed t) (sym same) ∙ sym c.declared.ensures ∙ w.if-not-declared.false)) tt)))
       ],
     )
 

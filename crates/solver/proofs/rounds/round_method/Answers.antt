@@ -1,11 +1,9 @@
 -- `solver::rounds::round_method` meets its contract. The loop's invariant: the tables are worked out up to entry h of method m.
 -- Assumes nothing.
-use mathlib.Core.Path.{◌≡◌, refl, sym, ap, ap₂, ◌∙◌, subst}
+use mathlib.Core.Path.{◌≡◌, sym, ◌∙◌, subst}
 use native.Mathlib.Omega.{arith}
-use borrow.Author.Rules.{rules}
-use Prim.Native.Nat.{ℕ, ◌+◌, ◌*◌, ◌-◌, ◌≤◌, ◌<◌, ◌^◌}
-use mathlib.Core.List.{List}
-use lib.ListN.{length, get_or, set, replicate, length-set, get_or-replicate}
+use Prim.Native.Nat.{ℕ, ◌+◌, ◌*◌, ◌<◌, ◌^◌}
+use lib.ListN.{set}
 use Rattle.frames.specs.Layout.{layout}
 use Rattle.frames.specs.Tables.{cell, method_of}
 use Rattle.solver.specs.Flat.{program_in}
@@ -23,7 +21,7 @@ loop-h-init c = let a = c.args in
     (omega arith, count, subst (λ (n : ℕ). Done n (round_tables a.tables.now a.old.now) a.old.now a.new.now) (sym (add-zero (layout.grades * a.m))) given.done)
 
 pub root_grade-requires : goal.root_grade-requires
-root_grade-requires c =  record { fits = c.requires.fits; at = c.requires.at }
+root_grade-requires c = record { fits = c.requires.fits; at = c.requires.at }
 
 pub loop-h-preserved : goal.loop-h-preserved
 loop-h-preserved c = let a = c.args in

@@ -1,15 +1,7 @@
-use mathlib.Core.Path.{◌≡◌, refl, sym, ap, ap₂, ◌∙◌, subst}
-use native.Mathlib.Omega.{arith}
-use borrow.Author.Rules.{rules}
-use Prim.Native.Nat.{ℕ, ◌+◌, ◌*◌, ◌-◌, ◌≤◌, ◌<◌, ◌^◌}
-use mathlib.Core.List.{List}
-use lib.ListN.{length, get_or, set, replicate, length-set, get_or-replicate}
+use mathlib.Core.Path.{◌≡◌}
+use Prim.Native.Nat.{◌+◌, ◌*◌, ◌-◌, ◌≤◌, ◌^◌}
 use Rattle.frames.specs.Layout.{layout}
 use Rattle.frames.specs.Tables.{cell, method_of}
-use Rattle.solver.specs.Flat.{program_in}
-use Rattle.solver.specs.Laws.Flat.{done-store, skip-rest, few-entries, no-entry-set, not_entry, count-read, round-undeclared}
-use Rattle.meaning.specs.Lowest.{is_entry}
-use native.Mathlib.Nat.{add-zero, add_assoc}
 use Rattle.solver.specs.Code.Rounds.{Done, round_tables}
 use Rattle.solver.proofs.rounds.round_method.Given as goal
 

@@ -1,10 +1,6 @@
 -- `solver::rounds::same` meets its contract. The loop's invariant: the places passed are the same.
 -- Assumes nothing.
-use mathlib.Core.Path.{◌≡◌, refl, sym, ap, ap₂, ◌∙◌, subst}
 use native.Mathlib.Omega.{arith}
-use borrow.Author.Rules.{rules}
-use Prim.Native.Nat.{ℕ, ◌+◌, ◌-◌, ◌≤◌, ◌<◌}
-use lib.ListN.{length, get_or}
 use borrow.Author.Count.{below_more}
 use Rattle.solver.proofs.rounds.same.Goals as goal
 

@@ -1,12 +1,8 @@
 -- `solver::rounds::start` meets its contract. The loop's invariant: the tables are worked out for the methods passed.
 -- Assumes nothing.
-use mathlib.Core.Path.{◌≡◌, refl, sym, ap, ap₂, ◌∙◌, subst}
+use mathlib.Core.Path.{◌≡◌, sym, ap, ◌∙◌, subst}
 use native.Mathlib.Omega.{arith}
-use borrow.Author.Rules.{rules}
-use Prim.Native.Nat.{ℕ, ◌+◌, ◌*◌, ◌-◌, ◌≤◌, ◌<◌, ◌^◌}
-use mathlib.Core.List.{List}
-use mathlib.Core.Logic.{⊎_elim}
-use lib.ListN.{length, get_or}
+use Prim.Native.Nat.{ℕ, ◌+◌, ◌*◌, ◌<◌}
 use Rattle.frames.specs.Layout.{layout}
 use Rattle.frames.specs.Frames.{methods_in}
 use Rattle.frames.specs.Tables.{cell}
@@ -33,12 +29,12 @@ loop-m-preserved c = let t = c.args.tables.now in
       at.invariant.0,
       omega arith,
       elim c.if-declared.branch [
-        then-declared w ↦ subst (Done (layout.grades * (at.m + 1)) (start_tables t) blank) (sym w.new-is)
-          (subst (λ (n : ℕ). Done n (start_tables t) blank w.start_method.new.new) next w.start_method.ensures)
+        | then-declared w ↦ subst (Done (layout.grades * (at.m + 1)) (start_tables t) blank) (sym w.new-is)
+            (subst (λ (n : ℕ). Done n (start_tables t) blank w.start_method.new.new) next w.start_method.ensures)
         | else-declared w ↦ subst (Done (layout.grades * (at.m + 1)) (start_tables t) blank) (sym w.new-is)
-          (skip-methods at.m (at.m + 1) (start_tables t) blank at.new at.invariant.2 (omega arith)
-          (λ n h l k e. let same : at.m ≡ n = omega arith in
-          start-undeclared t fits n h (omega arith) e (ap (is_fixed t) (sym same) ∙ sym c.declared.ensures ∙ w.if-declared.false) ∙ sym (blank-at (layout.grades * n + h))))
+            (skip-methods at.m (at.m + 1) (start_tables t) blank at.new at.invariant.2 (omega arith)
+            (λ n h l k e. let same : at.m ≡ n = omega arith in
+            start-undeclared t fits n h (omega arith) e (ap (is_fixed t) (sym same) ∙ sym c.declared.ensures ∙ w.if-declared.false) ∙ sym (blank-at (layout.grades * n + h))))
       ],
     )
 

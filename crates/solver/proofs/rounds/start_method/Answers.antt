@@ -1,11 +1,9 @@
 -- `solver::rounds::start_method` meets its contract. The loop's invariant: the tables are worked out up to entry h of method m.
 -- Assumes nothing.
-use mathlib.Core.Path.{◌≡◌, refl, sym, ap, ap₂, ◌∙◌, subst}
+use mathlib.Core.Path.{◌≡◌, sym, ◌∙◌, subst}
 use native.Mathlib.Omega.{arith}
-use borrow.Author.Rules.{rules}
-use Prim.Native.Nat.{ℕ, ◌+◌, ◌*◌, ◌-◌, ◌≤◌, ◌<◌, ◌^◌}
-use mathlib.Core.List.{List}
-use lib.ListN.{length, get_or, set, replicate, length-set, get_or-replicate}
+use Prim.Native.Nat.{ℕ, ◌+◌, ◌*◌, ◌<◌, ◌^◌}
+use lib.ListN.{set}
 use Rattle.frames.specs.Layout.{layout}
 use Rattle.frames.specs.Tables.{cell, method_of}
 use Rattle.solver.specs.Flat.{blank}

@@ -1,14 +1,8 @@
-use mathlib.Core.Path.{◌≡◌, refl, sym, ap, ap₂, ◌∙◌, subst}
-use native.Mathlib.Omega.{arith}
-use borrow.Author.Rules.{rules}
-use Prim.Native.Nat.{ℕ, ◌+◌, ◌*◌, ◌-◌, ◌≤◌, ◌<◌, ◌^◌}
-use mathlib.Core.List.{List}
-use lib.ListN.{length, get_or, set, replicate, length-set, get_or-replicate}
+use mathlib.Core.Path.{◌≡◌}
+use Prim.Native.Nat.{◌+◌, ◌*◌, ◌-◌, ◌≤◌, ◌^◌}
 use Rattle.frames.specs.Layout.{layout}
 use Rattle.frames.specs.Tables.{cell, method_of}
 use Rattle.solver.specs.Flat.{blank}
-use Rattle.solver.specs.Laws.Flat.{done-store, skip-rest, few-entries, no-entry-set, count-read, start-declared, start_outside, blank-at}
-use native.Mathlib.Nat.{add-zero, add_assoc}
 use Rattle.solver.specs.Code.Rounds.{Done, start_tables}
 use Rattle.solver.proofs.rounds.start_method.Given as goal
 

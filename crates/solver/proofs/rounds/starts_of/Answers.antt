@@ -2,11 +2,10 @@
 -- Assumes nothing.
 use mathlib.Core.Path.{◌≡◌, refl, ◌∙◌, subst}
 use native.Mathlib.Omega.{arith}
-use borrow.Author.Rules.{rules}
-use Prim.Native.Nat.{ℕ, ◌+◌, ◌-◌, ◌*◌, ◌≤◌, ◌<◌}
+use Prim.Native.Nat.{ℕ}
 use Rattle.frames.specs.Laws.Tables.{nodes-length}
 use Rattle.frames.specs.Frames.{methods_in}
-use Rattle.frames.specs.Tables.{cell, first_frame}
+use Rattle.frames.specs.Tables.{cell}
 use Rattle.frames.specs.Links.{node_count, nodes_before}
 use Rattle.solver.specs.Laws.Flat.{starts_more, first_more}
 use Rattle.solver.specs.Code.Rounds.{Starts}

@@ -1,12 +1,7 @@
-use mathlib.Core.Path.{◌≡◌, refl, ◌∙◌, subst}
-use native.Mathlib.Omega.{arith}
-use borrow.Author.Rules.{rules}
-use Prim.Native.Nat.{ℕ, ◌+◌, ◌-◌, ◌*◌, ◌≤◌, ◌<◌}
-use Rattle.frames.specs.Laws.Tables.{nodes-length}
+use mathlib.Core.Path.{◌≡◌}
+use Prim.Native.Nat.{◌+◌, ◌-◌, ◌*◌, ◌≤◌}
 use Rattle.frames.specs.Frames.{methods_in}
 use Rattle.frames.specs.Tables.{cell, first_frame}
-use Rattle.frames.specs.Links.{node_count, nodes_before}
-use Rattle.solver.specs.Laws.Flat.{starts_more, first_more}
 use Rattle.solver.specs.Code.Rounds.{Starts}
 use Rattle.solver.proofs.rounds.starts_of.Given as goal
 
