@@ -32,11 +32,6 @@ loop-i-preserved c = let a = c.args in
       omega arith,
     )
 
--- GONE same_length : tie.Need-same-length invariant-loop decreases-loop
--- GONE same_length c =
--- GONE     let a = c.before.before.args in
--- GONE     ap length c.before.loop.invariant.0 ∙ copy-length a.out.now a.page.now c.before.loop.i (omega arith) (omega arith)
-
 pub returns : goal.returns
 returns c = let a = c.args in
     let e : c.loop-i.i ≡ a.n = omega arith in

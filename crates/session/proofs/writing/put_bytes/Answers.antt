@@ -49,11 +49,6 @@ overflow_mul-result c = omega arith
 pub overflow_add-result : goal.overflow_add-result
 overflow_add-result c = omega arith
 
--- GONE same_length : tie.Need-same-length invariant-loop decreases-loop
--- GONE same_length c =
--- GONE     let a = c.before.before.before.before.args in
--- GONE     ap length c.before.loop.invariant.0 ∙ digits-length a.page.now a.at a.bytes.now c.before.loop.i (omega arith) (omega arith)
-
 pub returns : goal.returns
 returns c = let a = c.args in
     let e : c.loop-i.i ≡ length a.bytes.now = omega arith in record { value = ap (λ (n : ℕ). a.at + 2 * n) e; page_after = c.loop-i.invariant.0 ∙ ap (λ (l : List ℕ). put_at a.page.now a.at (digits_of l)) (ap (λ (n : ℕ). take n a.bytes.now) e ∙ take-length _) }

@@ -5,5 +5,7 @@ use borrow.Author.Rules.{rules}
 use Rattle.session.proofs.writing.put_line.Goals as goal
 
 pub returns : goal.returns
-returns c = line-put _ _ _ _ _ _ c.requires
-    c.put_bytes-at.ensures.value c.put_bytes-at.ensures.page_after c.end_line.ensures.value c.end_line.ensures.page_after
+returns c =
+    let done = line-put _ _ _ _ _ _ c.requires
+    c.put_bytes-at.ensures.value c.put_bytes-at.ensures.page_after c.end_line.ensures.value c.end_line.ensures.page_after in
+    record { value = done.0; page_after = done.1 }
