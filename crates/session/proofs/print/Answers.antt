@@ -3,7 +3,6 @@
 use mathlib.Core.Path.{refl, sym, ◌∙◌}
 use Rattle.checker.specs.declared.Verdict.TheVariants.{WrongLength, Overlong}
 use Rattle.session.specs.Laws.Session.{by-verdict}
-use borrow.Author.Rules.{rules}
 use Rattle.session.proofs.print.Goals as goal
 
 pub put_accepted-requires : goal.put_accepted-requires

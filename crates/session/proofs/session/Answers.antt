@@ -2,7 +2,6 @@
 -- Assumes nothing.
 use Rattle.session.specs.Laws.Page.{handed_out}
 use Rattle.session.specs.Session.{session_of}
-use borrow.Author.Rules.{rules}
 use Rattle.session.proofs.session.Goals as goal
 
 pub returns : goal.returns

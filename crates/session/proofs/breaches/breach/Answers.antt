@@ -2,7 +2,6 @@
 -- Assumes nothing.
 use Rattle.session.specs.Laws.Page.{handed_out}
 use Rattle.session.specs.Breach.{breach_of}
-use borrow.Author.Rules.{rules}
 use Rattle.session.proofs.breaches.breach.Goals as goal
 
 pub returns : goal.returns

@@ -1,19 +1,15 @@
 -- `print_breach` meets its contract: a line for a refusal by 7 with kind 1, and nothing for any other verdict.
 -- Assumes nothing.
-use mathlib.Core.List.{[], ◌∷◌}
+use mathlib.Core.List.{[]}
 use mathlib.Core.Path.{◌≡◌, refl, sym, ap, ◌∙◌}
 use Prim.Native.Nat.{ℕ}
-use denote.Enum.Declared.{tag_of}
-use types.Run.{OneOf, miss}
 use Rattle.frames.specs.Program.{Program}
-use Rattle.checker.specs.contracts.Verdict.{the_type}
 use Rattle.checker.specs.Grading.{program_read}
 use Rattle.checker.specs.declared.Verdict.{Verdict}
 use Rattle.checker.specs.declared.Verdict.TheVariants.{Accepted, WrongLength, Overlong, Malformed, Misplaced, OutOfRange, Unlinked, Broken}
 use Rattle.session.specs.Breach.{breach_by}
 use Rattle.session.specs.BreachFacts.{breach-true}
 use Rattle.session.specs.Laws.Breach.{by-verdict, none, other-kind}
-use borrow.Author.Rules.{rules}
 use Rattle.session.proofs.breaches.print_breach.Goals as goal
 
 -- every other verdict is no refusal by 7

@@ -5,7 +5,6 @@ use mathlib.Core.List.{[], ◌∷◌}
 use Rattle.session.specs.Laws.Breach.{never-nothing, breach-bytes}
 use Rattle.session.specs.Laws.Session.{renamed}
 use Rattle.session.specs.Laws.Writing.{length-line}
-use borrow.Author.Rules.{rules}
 use Rattle.session.proofs.breaches.put_breach.Goals as goal
 
 pub returns-in_default : goal.returns-in_default

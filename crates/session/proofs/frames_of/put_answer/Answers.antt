@@ -11,7 +11,6 @@ use Rattle.session.specs.Laws.Writing.{length-line}
 use Rattle.session.specs.Laws.Page.{put-behind}
 use Rattle.session.specs.Session.{answer_frame}
 use Rattle.session.specs.Laws.Session.{answer-bytes, renamed}
-use borrow.Author.Rules.{rules}
 use Rattle.session.proofs.frames_of.put_answer.Goals as goal
 
 pub put_methods-requires : goal.put_methods-requires

@@ -5,7 +5,6 @@ use native.Mathlib.Omega.{arith}
 use Rattle.frames.specs.Layout.{layout}
 use Rattle.session.specs.Laws.Page.{parts-put}
 use Rattle.session.specs.Laws.Session.{frame-parts, frame-short}
-use borrow.Author.Rules.{rules}
 use Rattle.session.proofs.frames_of.put_method.Goals as goal
 
 pub returns : goal.returns

@@ -1,6 +1,6 @@
 -- `put_methods` meets its contract: after m turns the lines of the methods below m stand there.
 -- Assumes nothing.
-use Prim.Native.Nat.{ℕ, ◌+◌, ◌*◌, ◌-◌, ◌≤◌}
+use Prim.Native.Nat.{ℕ, ◌+◌}
 use mathlib.Core.Path.{◌≡◌, sym, ap, ◌∙◌}
 use mathlib.Core.List.{List}
 use native.Mathlib.Omega.{arith}
@@ -8,7 +8,7 @@ use lib.ListN.{length}
 use Rattle.frames.specs.Tables.{cell, program_of}
 use Rattle.session.specs.Page.{put_at}
 use Rattle.session.specs.Laws.Page.{put-none, put-behind, length-put}
-use Rattle.session.specs.Session.{longest_method, method_lines}
+use Rattle.session.specs.Session.{method_lines}
 use Rattle.session.specs.Laws.Session.{lines_more}
 use Rattle.session.proofs.frames_of.put_methods.Goals as goal
 

@@ -5,7 +5,6 @@ use mathlib.Core.List.{[], ◌∷◌}
 use Rattle.checker.specs.Grading.{Numbers}
 use Rattle.session.specs.Laws.Writing.{length-line}
 use Rattle.session.specs.Laws.Session.{refusal-bytes, renamed}
-use borrow.Author.Rules.{rules}
 use Rattle.session.proofs.frames_of.put_refusal.Goals as goal
 
 pub returns : goal.returns
