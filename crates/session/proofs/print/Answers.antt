@@ -2,7 +2,7 @@
 -- Assumes nothing.
 use mathlib.Core.Path.{refl, sym, ◌∙◌}
 use Rattle.checker.specs.declared.Verdict.TheVariants.{WrongLength, Overlong}
-use Rattle.session.specs.Laws.Session.{by-verdict}
+use Rattle.session.proofs.Laws.Session.{by-verdict}
 use Rattle.session.proofs.print.Goals as goal
 
 pub put_accepted-requires : goal.put_accepted-requires

@@ -1,6 +1,6 @@
 -- `session` meets its contract: what stands on the page is handed out.
 -- Assumes nothing.
-use Rattle.session.specs.Laws.Page.{handed_out}
+use Rattle.session.proofs.Laws.Page.{handed_out}
 use Rattle.session.specs.Session.{session_of}
 use Rattle.session.proofs.session.Goals as goal
 

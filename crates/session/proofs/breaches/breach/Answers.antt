@@ -1,6 +1,6 @@
 -- `breach` meets its contract: what stands on the page is handed out.
 -- Assumes nothing.
-use Rattle.session.specs.Laws.Page.{handed_out}
+use Rattle.session.proofs.Laws.Page.{handed_out}
 use Rattle.session.specs.Breach.{breach_of}
 use Rattle.session.proofs.breaches.breach.Goals as goal
 

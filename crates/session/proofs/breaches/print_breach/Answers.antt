@@ -9,7 +9,7 @@ use Rattle.checker.specs.declared.Verdict.{Verdict}
 use Rattle.checker.specs.declared.Verdict.TheVariants.{Accepted, WrongLength, Overlong, Malformed, Misplaced, OutOfRange, Unlinked, Broken}
 use Rattle.session.specs.Breach.{breach_by}
 use Rattle.session.specs.BreachFacts.{breach-true}
-use Rattle.session.specs.Laws.Breach.{by-verdict, none, other-kind}
+use Rattle.session.proofs.Laws.Breach.{by-verdict, none, other-kind}
 use Rattle.session.proofs.breaches.print_breach.Goals as goal
 
 -- every other verdict is no refusal by 7

@@ -2,9 +2,9 @@
 -- Assumes nothing.
 use native.Mathlib.Omega.{arith}
 use mathlib.Core.List.{[], ◌∷◌}
-use Rattle.session.specs.Laws.Breach.{never-nothing, breach-bytes}
-use Rattle.session.specs.Laws.Session.{renamed}
-use Rattle.session.specs.Laws.Writing.{length-line}
+use Rattle.session.proofs.Laws.Breach.{never-nothing, breach-bytes}
+use Rattle.session.proofs.Laws.Session.{renamed}
+use Rattle.session.proofs.Laws.Writing.{length-line}
 use Rattle.session.proofs.breaches.put_breach.Goals as goal
 
 pub returns-in_default : goal.returns-in_default

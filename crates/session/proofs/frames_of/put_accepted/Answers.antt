@@ -6,7 +6,7 @@ use Rattle.frames.specs.Program.{Program}
 use Rattle.checker.specs.declared.Verdict.TheVariants.{Accepted}
 use Rattle.session.specs.Page.{put_at}
 use Rattle.session.specs.Session.{session_by}
-use Rattle.session.specs.Laws.Session.{stands}
+use Rattle.session.proofs.Laws.Session.{stands}
 use Rattle.session.proofs.frames_of.put_accepted.Goals as goal
 
 pub put_answer-requires : goal.put_answer-requires

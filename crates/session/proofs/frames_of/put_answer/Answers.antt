@@ -7,10 +7,10 @@ use native.Mathlib.Omega.{arith}
 use lib.ListN.{length}
 use Rattle.frames.specs.Layout.{layout}
 use Rattle.session.specs.Writing.{line_of}
-use Rattle.session.specs.Laws.Writing.{length-line}
-use Rattle.session.specs.Laws.Page.{put-behind}
+use Rattle.session.proofs.Laws.Writing.{length-line}
+use Rattle.session.proofs.Laws.Page.{put-behind}
 use Rattle.session.specs.Session.{answer_frame}
-use Rattle.session.specs.Laws.Session.{answer-bytes, renamed}
+use Rattle.session.proofs.Laws.Session.{answer-bytes, renamed}
 use Rattle.session.proofs.frames_of.put_answer.Goals as goal
 
 pub put_methods-requires : goal.put_methods-requires

@@ -3,8 +3,8 @@
 use Prim.Native.Nat.{◌+◌, ◌*◌, ◌-◌}
 use native.Mathlib.Omega.{arith}
 use Rattle.frames.specs.Layout.{layout}
-use Rattle.session.specs.Laws.Page.{parts-put}
-use Rattle.session.specs.Laws.Session.{frame-parts, frame-short}
+use Rattle.session.proofs.Laws.Page.{parts-put}
+use Rattle.session.proofs.Laws.Session.{frame-parts, frame-short}
 use Rattle.session.proofs.frames_of.put_method.Goals as goal
 
 pub returns : goal.returns

@@ -7,9 +7,9 @@ use native.Mathlib.Omega.{arith}
 use lib.ListN.{length}
 use Rattle.frames.specs.Tables.{cell, program_of}
 use Rattle.session.specs.Page.{put_at}
-use Rattle.session.specs.Laws.Page.{put-none, put-behind, length-put}
+use Rattle.session.proofs.Laws.Page.{put-none, put-behind, length-put}
 use Rattle.session.specs.Session.{method_lines}
-use Rattle.session.specs.Laws.Session.{lines_more}
+use Rattle.session.proofs.Laws.Session.{lines_more}
 use Rattle.session.proofs.frames_of.put_methods.Goals as goal
 
 pub loop-m-init : goal.loop-m-init

@@ -3,8 +3,8 @@
 use native.Mathlib.Omega.{arith}
 use mathlib.Core.List.{[], ◌∷◌}
 use Rattle.checker.specs.Grading.{Numbers}
-use Rattle.session.specs.Laws.Writing.{length-line}
-use Rattle.session.specs.Laws.Session.{refusal-bytes, renamed}
+use Rattle.session.proofs.Laws.Writing.{length-line}
+use Rattle.session.proofs.Laws.Session.{refusal-bytes, renamed}
 use Rattle.session.proofs.frames_of.put_refusal.Goals as goal
 
 pub returns : goal.returns

@@ -6,7 +6,7 @@ use mathlib.Core.Path.{◌≡◌, ap, ◌∙◌}
 use native.Mathlib.Omega.{arith}
 use lib.ListN.{length, get_or, take, set}
 use Rattle.session.specs.Page.{put_at}
-use Rattle.session.specs.Laws.Page.{put-none, copy_more, copy-length}
+use Rattle.session.proofs.Laws.Page.{put-none, copy_more, copy-length}
 use Rattle.session.proofs.writing.copy.Goals as goal
 
 pub loop-i-init : goal.loop-i-init

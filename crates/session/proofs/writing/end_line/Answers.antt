@@ -1,7 +1,7 @@
 -- `end_line` meets its contract: one store.
 -- Assumes nothing.
 use mathlib.Core.Path.{refl}
-use Rattle.session.specs.Laws.Page.{put_one}
+use Rattle.session.proofs.Laws.Page.{put_one}
 use Rattle.session.proofs.writing.end_line.Goals as goal
 
 pub returns : goal.returns

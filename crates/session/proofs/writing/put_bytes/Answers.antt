@@ -8,7 +8,7 @@ use lib.ListN.{length, get_or, take}
 use lib.Seq.{take-length}
 use Rattle.session.specs.Writing.{digits_of}
 use Rattle.session.specs.Page.{put_at}
-use Rattle.session.specs.Laws.Page.{put-none, digits_more, digits-length}
+use Rattle.session.proofs.Laws.Page.{put-none, digits_more, digits-length}
 use Rattle.session.proofs.writing.put_bytes.Goals as goal
 
 pub loop-i-init : goal.loop-i-init

@@ -1,6 +1,6 @@
 -- `put_line` meets its contract: the digits, and the 0A behind them.
 -- Assumes nothing.
-use Rattle.session.specs.Laws.Page.{line-put}
+use Rattle.session.proofs.Laws.Page.{line-put}
 use Rattle.session.proofs.writing.put_line.Goals as goal
 
 pub returns : goal.returns

@@ -9,7 +9,7 @@ use Rattle.lines.specs.Lines.{newline}
 use Rattle.session.specs.Session.{longest_frame, longest_method}
 use Rattle.session.specs.Page.{put_at, printed}
 use Rattle.session.specs.Writing.{digits_of, line_of}
-use Rattle.session.specs.Laws.Writing.{digits_append, length_digits, length-line}
+use Rattle.session.proofs.Laws.Writing.{digits_append, length_digits, length-line}
 
 pub put-none : (d : List ℕ) (at : ℕ) → d ≡ put_at d at []
 unfolding put_at
