@@ -7,4 +7,3 @@ pub mod SessionFacts
 -- What is printed of a broken declaration, and that it is true.
 pub mod Breach
 pub mod BreachFacts
-pub mod Laws

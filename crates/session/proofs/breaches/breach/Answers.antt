@@ -1,11 +1,10 @@
 -- `breach` meets its contract: what stands on the page is handed out.
 -- Assumes nothing.
-use Rattle.session.specs.Laws.Page.{handed_out}
+use Rattle.session.proofs.Laws.Page.{handed_out}
 use Rattle.session.specs.Breach.{breach_of}
-use borrow.Author.Rules.{rules}
 use Rattle.session.proofs.breaches.breach.Goals as goal
 
 pub returns : goal.returns
 returns c = let a = c.args in
     let given = c.print_breach-n.ensures in
-    record { value = given.0.0; out_after = handed_out _ _ (breach_of a.text.now) a.out.now _ _ given.0.0 given.1 c.hand_out.ensures }
+    record { value = given.value.0; out_after = handed_out _ _ (breach_of a.text.now) a.out.now _ _ given.value.0 given.page_after c.hand_out.ensures }

@@ -1,7 +1,6 @@
 -- `declared_grade` meets its contract: the tables that are read stand for the text's program.
 -- Assumes nothing.
-use Rattle.session.specs.Laws.Breach.{declared-read}
-use borrow.Author.Rules.{rules}
+use Rattle.session.proofs.Laws.Breach.{declared-read}
 use Rattle.session.proofs.breaches.declared_grade.Goals as goal
 
 pub returns : goal.returns

@@ -2,10 +2,9 @@
 -- Assumes nothing.
 use native.Mathlib.Omega.{arith}
 use mathlib.Core.List.{[], ◌∷◌}
-use Rattle.session.specs.Laws.Breach.{never-nothing, breach-bytes}
-use Rattle.session.specs.Laws.Session.{renamed}
-use Rattle.session.specs.Laws.Writing.{length-line}
-use borrow.Author.Rules.{rules}
+use Rattle.session.proofs.Laws.Breach.{never-nothing, breach-bytes}
+use Rattle.session.proofs.Laws.Session.{renamed}
+use Rattle.session.proofs.Laws.Writing.{length-line}
 use Rattle.session.proofs.breaches.put_breach.Goals as goal
 
 pub returns-in_default : goal.returns-in_default
@@ -14,11 +13,10 @@ returns-in_default c = let root = c.lowest_root-found in
 
 pub returns : goal.returns
 returns c = let root = c.lowest_root-found in
-    let grade = c.found-1.given in
     let method = c.low in
     let set = c.low-2 in
     let declared = c.declared_grade in
     let line = c.put_line.ensures in
-    let frame = breach-bytes c.args.text.now c.args.method c.args.set c.requires.breach root.result _ _ _ grade.0.0 method.ensures set.ensures declared.ensures root.ensures grade.1 in
-    let same = renamed c.args.page.now _ _ _ _ frame line.0 line.1 in
-    record { value = (same.0, omega (arith, line.0, length-line (30 ∷ method.result ∷ set.result ∷ declared.result ∷ grade.0.0 ∷ []))); page_after = same.1 }
+    let frame = breach-bytes c.args.text.now c.args.method c.args.set c.requires.breach root.result _ _ _ c.in-Grade.root method.ensures set.ensures declared.ensures root.ensures c.in-Grade.is in
+    let same = renamed c.args.page.now _ _ _ _ frame line.value line.page_after in
+    record { value = (same.0, omega (arith, line.value, length-line (30 ∷ method.result ∷ set.result ∷ declared.result ∷ c.in-Grade.root ∷ []))); page_after = same.1 }

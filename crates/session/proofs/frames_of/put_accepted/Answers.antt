@@ -6,8 +6,7 @@ use Rattle.frames.specs.Program.{Program}
 use Rattle.checker.specs.declared.Verdict.TheVariants.{Accepted}
 use Rattle.session.specs.Page.{put_at}
 use Rattle.session.specs.Session.{session_by}
-use Rattle.session.specs.Laws.Session.{stands}
-use borrow.Author.Rules.{rules}
+use Rattle.session.proofs.Laws.Session.{stands}
 use Rattle.session.proofs.frames_of.put_accepted.Goals as goal
 
 pub put_answer-requires : goal.put_answer-requires
@@ -19,4 +18,4 @@ put_answer-requires c = let a = c.args in
 pub returns : goal.returns
 returns c = let a = c.args in
     let given = c.put_answer.ensures in
-    let read = stands a.text.now a.methods a.rounds c.read-checked.result c.read-checked.ensures c.requires.answer_length_value in record { value = (given.0.0 ∙ ap (λ (p : Program). length (session_by (Accepted a.methods a.rounds) p a.answer.now)) read.same, given.0.1); page_after = given.1 ∙ ap (λ (p : Program). put_at a.page.now 0 (session_by (Accepted a.methods a.rounds) p a.answer.now)) read.same }
+    let read = stands a.text.now a.methods a.rounds c.read-checked.result c.read-checked.ensures c.requires.answer_length_value in record { value = (given.value.0 ∙ ap (λ (p : Program). length (session_by (Accepted a.methods a.rounds) p a.answer.now)) read.same, given.value.1); page_after = given.page_after ∙ ap (λ (p : Program). put_at a.page.now 0 (session_by (Accepted a.methods a.rounds) p a.answer.now)) read.same }

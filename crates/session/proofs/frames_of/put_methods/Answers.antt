@@ -1,15 +1,15 @@
 -- `put_methods` meets its contract: after m turns the lines of the methods below m stand there.
 -- Assumes nothing.
-use Prim.Native.Nat.{ℕ, ◌+◌, ◌*◌, ◌-◌, ◌≤◌}
+use Prim.Native.Nat.{ℕ, ◌+◌}
 use mathlib.Core.Path.{◌≡◌, sym, ap, ◌∙◌}
 use mathlib.Core.List.{List}
 use native.Mathlib.Omega.{arith}
 use lib.ListN.{length}
 use Rattle.frames.specs.Tables.{cell, program_of}
 use Rattle.session.specs.Page.{put_at}
-use Rattle.session.specs.Laws.Page.{put-none, put-behind, length-put}
-use Rattle.session.specs.Session.{longest_method, method_lines}
-use Rattle.session.specs.Laws.Session.{lines_more}
+use Rattle.session.proofs.Laws.Page.{put-none, put-behind, length-put}
+use Rattle.session.specs.Session.{method_lines}
+use Rattle.session.proofs.Laws.Session.{lines_more}
 use Rattle.session.proofs.frames_of.put_methods.Goals as goal
 
 pub loop-m-init : goal.loop-m-init
@@ -35,16 +35,10 @@ loop-m-preserved c = let a = c.args in
     let p = program_of (cell a.tables.now) in
     let more = lines_more p a.answer.now loop.m in
     let behind = put-behind a.page.now a.at (method_lines p a.answer.now loop.m) _ loop.page _ loop.place _ (omega arith)
-    loop.invariant.0 loop.invariant.1.0 given.0.0 given.1 in (
+    loop.invariant.0 loop.invariant.1.0 given.value.0 given.page_after in (
       behind.0 ∙ ap (put_at a.page.now a.at) (sym more),
-      (behind.1 ∙ ap (λ (l : List ℕ). a.at + length l) (sym more), (omega (arith, given.0.1), omega arith)),
+      (behind.1 ∙ ap (λ (l : List ℕ). a.at + length l) (sym more), (omega (arith, given.value.1), omega arith)),
     )
-
--- GONE same_length : tie.Need-same-length invariant-loop decreases-loop
--- GONE same_length c =
--- GONE     let a = c.before.before.before.before.before.args in
--- GONE     let loop = c.before.loop in
--- GONE     ap length loop.invariant.0 ∙ length-put a.page.now a.at _ (omega arith)
 
 pub returns : goal.returns
 returns c = let a = c.args in

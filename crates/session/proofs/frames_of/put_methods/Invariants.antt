@@ -1,13 +1,9 @@
-use Prim.Native.Nat.{ℕ, ◌+◌, ◌*◌, ◌-◌, ◌≤◌}
-use mathlib.Core.Path.{◌≡◌, sym, ap, ◌∙◌}
-use mathlib.Core.List.{List}
-use native.Mathlib.Omega.{arith}
+use Prim.Native.Nat.{◌+◌, ◌*◌, ◌-◌, ◌≤◌}
+use mathlib.Core.Path.{◌≡◌}
 use lib.ListN.{length}
 use Rattle.frames.specs.Tables.{cell, program_of}
 use Rattle.session.specs.Page.{put_at}
-use Rattle.session.specs.Laws.Page.{put-none, put-behind, length-put}
 use Rattle.session.specs.Session.{longest_method, method_lines}
-use Rattle.session.specs.Laws.Session.{lines_more}
 use Rattle.session.proofs.frames_of.put_methods.Given as goal
 
 abbrev pub invariant-loop-m : goal.invariant-loop-m

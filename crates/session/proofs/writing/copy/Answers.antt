@@ -1,12 +1,12 @@
 -- `copy` meets its contract: after i turns the first i bytes stand at the front.
 -- Assumes nothing.
-use Prim.Native.Nat.{ℕ, ◌≤◌, ◌-◌}
+use Prim.Native.Nat.{ℕ}
 use mathlib.Core.List.{List}
 use mathlib.Core.Path.{◌≡◌, ap, ◌∙◌}
 use native.Mathlib.Omega.{arith}
 use lib.ListN.{length, get_or, take, set}
 use Rattle.session.specs.Page.{put_at}
-use Rattle.session.specs.Laws.Page.{put-none, copy_more, copy-length}
+use Rattle.session.proofs.Laws.Page.{put-none, copy_more, copy-length}
 use Rattle.session.proofs.writing.copy.Goals as goal
 
 pub loop-i-init : goal.loop-i-init
@@ -31,11 +31,6 @@ loop-i-preserved c = let a = c.args in
       ap (λ (l : List ℕ). set l i (get_or a.page.now i 0)) c.loop-i.invariant.0 ∙ copy_more a.out.now a.page.now i (omega arith) (omega arith),
       omega arith,
     )
-
--- GONE same_length : tie.Need-same-length invariant-loop decreases-loop
--- GONE same_length c =
--- GONE     let a = c.before.before.args in
--- GONE     ap length c.before.loop.invariant.0 ∙ copy-length a.out.now a.page.now c.before.loop.i (omega arith) (omega arith)
 
 pub returns : goal.returns
 returns c = let a = c.args in

@@ -1,9 +1,8 @@
 -- `end_line` meets its contract: one store.
 -- Assumes nothing.
 use mathlib.Core.Path.{refl}
-use Rattle.session.specs.Laws.Page.{put_one}
-use borrow.Author.Rules.{rules}
+use Rattle.session.proofs.Laws.Page.{put_one}
 use Rattle.session.proofs.writing.end_line.Goals as goal
 
 pub returns : goal.returns
-returns c =  record { value = refl; page_after = put_one _ _ _ c.requires }
+returns c = record { value = refl; page_after = put_one _ _ _ c.requires }

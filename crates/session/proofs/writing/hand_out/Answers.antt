@@ -4,8 +4,7 @@ use mathlib.Core.Path.{◌∙◌}
 use native.Mathlib.Omega.{arith}
 use lib.ListN.{take}
 use lib.Seq.{length-take-le}
-use borrow.Author.Rules.{rules}
-use Rattle.session.specs.Laws.Page.{printed-none, printed-room}
+use Rattle.session.proofs.Laws.Page.{printed-none, printed-room}
 use Rattle.session.proofs.writing.hand_out.Goals as goal
 
 pub returns-then-out-n : goal.returns-then-out-n

@@ -2,7 +2,6 @@
 -- Assumes nothing.
 use borrow.Author.Tests.{lt-ltb, le-ltb}
 use Rattle.session.specs.Writing.{hex_digit}
-use borrow.Author.Rules.{rules}
 use Rattle.session.proofs.writing.hex_digit.Goals as goal
 
 pub returns-then-d-lt10 : goal.returns-then-d-lt10

@@ -7,8 +7,7 @@ use Rattle.session.specs.Writing.{digits_of}
 use Rattle.session.specs.Page.{put_at}
 use native.Mathlib.Omega.{arith}
 use lib.ListN.{length-set}
-use Rattle.session.specs.Laws.Page.{put_two}
-use borrow.Author.Rules.{rules}
+use Rattle.session.proofs.Laws.Page.{put_two}
 use Rattle.session.proofs.writing.put_byte.Goals as goal
 
 pub bounds-page-at-2 : goal.bounds-page-at-2

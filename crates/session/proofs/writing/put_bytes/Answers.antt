@@ -1,6 +1,6 @@
 -- `put_bytes` meets its contract: after i turns the digits of the first i bytes stand there.
 -- Assumes nothing.
-use Prim.Native.Nat.{ℕ, ◌+◌, ◌*◌, ◌≤◌, ◌-◌}
+use Prim.Native.Nat.{ℕ, ◌+◌, ◌*◌}
 use mathlib.Core.List.{List, [], ◌∷◌}
 use mathlib.Core.Path.{◌≡◌, ap, ◌∙◌}
 use native.Mathlib.Omega.{arith}
@@ -8,7 +8,7 @@ use lib.ListN.{length, get_or, take}
 use lib.Seq.{take-length}
 use Rattle.session.specs.Writing.{digits_of}
 use Rattle.session.specs.Page.{put_at}
-use Rattle.session.specs.Laws.Page.{put-none, digits_more, digits-length}
+use Rattle.session.proofs.Laws.Page.{put-none, digits_more, digits-length}
 use Rattle.session.proofs.writing.put_bytes.Goals as goal
 
 pub loop-i-init : goal.loop-i-init
@@ -48,11 +48,6 @@ overflow_mul-result c = omega arith
 
 pub overflow_add-result : goal.overflow_add-result
 overflow_add-result c = omega arith
-
--- GONE same_length : tie.Need-same-length invariant-loop decreases-loop
--- GONE same_length c =
--- GONE     let a = c.before.before.before.before.args in
--- GONE     ap length c.before.loop.invariant.0 ∙ digits-length a.page.now a.at a.bytes.now c.before.loop.i (omega arith) (omega arith)
 
 pub returns : goal.returns
 returns c = let a = c.args in

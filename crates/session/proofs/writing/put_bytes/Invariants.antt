@@ -1,12 +1,8 @@
-use Prim.Native.Nat.{ℕ, ◌+◌, ◌*◌, ◌≤◌, ◌-◌}
-use mathlib.Core.List.{List, [], ◌∷◌}
-use mathlib.Core.Path.{◌≡◌, ap, ◌∙◌}
-use native.Mathlib.Omega.{arith}
-use lib.ListN.{length, get_or, take}
-use lib.Seq.{take-length}
+use Prim.Native.Nat.{◌≤◌, ◌-◌}
+use mathlib.Core.Path.{◌≡◌}
+use lib.ListN.{length, take}
 use Rattle.session.specs.Writing.{digits_of}
 use Rattle.session.specs.Page.{put_at}
-use Rattle.session.specs.Laws.Page.{put-none, digits_more, digits-length}
 use Rattle.session.proofs.writing.put_bytes.Given as goal
 
 abbrev pub invariant-loop-i : goal.invariant-loop-i

@@ -25,7 +25,7 @@ use Rattle.checker.specs.declared.Verdict.{Verdict}
 use Rattle.session.specs.Breach.{breach_length, breach_frame, breach_by, breach_of}
 use Rattle.session.specs.BreachFacts.{Breach}
 use Rattle.session.specs.Page.{put_at}
-use Rattle.session.specs.Laws.Page.{put-none}
+use Rattle.session.proofs.Laws.Page.{put-none}
 use Rattle.session.specs.Writing.{line_of, low}
 use Rattle.frames.specs.Layout.{answer_length}
 

@@ -1,6 +1,6 @@
 -- Laws of bytes put into a buffer: what is put after what was put stands behind it.
 -- Assumes nothing.
-use Rattle.std.specs.Prelude.{ℕ, ◌+◌, ◌-◌, ◌*◌, ◌≤◌, ◌<◌, ◌≡◌, List, [], ◌∷◌, ◌++◌, length, get_or, take, drop, set}
+use Rattle.std.specs.Prelude.{ℕ, ◌+◌, ◌*◌, ◌≤◌, ◌<◌, ◌≡◌, List, [], ◌∷◌, ◌++◌, length, get_or, take, drop, set}
 use Rattle.std.proofs.Common.{ap, sym, ◌∙◌, append_assoc, arith, add-zero, add_assoc, zero-add, add-one, length-append, length-drop, length-set, take-append-drop, take-suc, take_at, drop_at, drop-drop, length-take-le, le-leb}
 use Rattle.std.proofs.lemmas.List.{set_split}
 use Rattle.std.proofs.Math.Seq.{take-append_seam}
@@ -9,7 +9,7 @@ use Rattle.lines.specs.Lines.{newline}
 use Rattle.session.specs.Session.{longest_frame, longest_method}
 use Rattle.session.specs.Page.{put_at, printed}
 use Rattle.session.specs.Writing.{digits_of, line_of}
-use Rattle.session.specs.Laws.Writing.{digits_append, length_digits, length-line}
+use Rattle.session.proofs.Laws.Writing.{digits_append, length_digits, length-line}
 
 pub put-none : (d : List ℕ) (at : ℕ) → d ≡ put_at d at []
 unfolding put_at

@@ -14,7 +14,6 @@ use Rattle.frames.specs.Reading.{read_text}
 use Rattle.frames.specs.Promises.{tables-stand, read-well-formed}
 use Rattle.frames.specs.declared.Checked.{Checked}
 use Rattle.frames.specs.declared.Outcome.{Outcome}
-use Rattle.frames.specs.declared.Outcome.TheVariants as Outcome
 use Rattle.meaning.specs.Lowest.{method_count}
 use Rattle.meaning.specs.Constraints.{Answer, accepted, refused, answer}
 use Rattle.checker.specs.Grading.{Numbers, program_read, by_answer, by_reading, verdict_of, answer_of}
