@@ -12,4 +12,3 @@ pub mod Coincide
 pub mod RootRead
 -- What the code's private functions come to, and the laws behind it all.
 pub mod Code
-pub mod Laws

@@ -1,1 +1,3 @@
+pub mod Laws
 mod Filling
+pub mod Refused

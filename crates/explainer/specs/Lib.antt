@@ -2,5 +2,4 @@
 pub mod Explain
 pub mod Broken
 pub mod Code
-pub mod Laws
 pub mod Refused

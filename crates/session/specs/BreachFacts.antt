@@ -18,7 +18,8 @@ use Rattle.meaning.specs.Lowest.{method_count, is_declared, declared_table, lowe
 use Rattle.meaning.specs.Constraints.{Entry, Closed, declared_root, main_table, forked_table, method_of, kind_of, fork_at, forks_of, closed_of, closed_of_all, closed, refused, answer, FirstBroken}
 use Rattle.meaning.proofs.Laws.Answers.{when-refused}
 use Rattle.checker.specs.Grading.{program_read, verdict_of, numbers_of}
-use Rattle.checker.specs.Demand1.{Case, demand-1}
+use Rattle.checker.specs.Demand1.{Case}
+use Rattle.checker.proofs.Demand1.{demand-1}
 use Rattle.checker.specs.declared.Verdict.{Verdict}
 use Rattle.checker.specs.declared.Verdict.TheVariants.{Broken}
 use Rattle.session.specs.Breach.{breach_frame, breach_by, breach_of}

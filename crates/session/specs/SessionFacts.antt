@@ -30,8 +30,9 @@ use Rattle.solver.specs.Laws.Room.{room_fits}
 use Rattle.solver.specs.Laws.Rounds.{rounds-few}
 use Rattle.solver.specs.Laws.Flat.{flat-entry, flat-length}
 use Rattle.checker.specs.Grading.{program_read, verdict_of, answer_of, bytes_by_answer, Numbers, line_refused, numbers_of}
-use Rattle.checker.specs.Laws.Grading.{right-bytes, read-room}
-use Rattle.checker.specs.Demand1.{Gradable, Faulty, Case, demand-1}
+use Rattle.checker.proofs.Laws.Grading.{right-bytes, read-room}
+use Rattle.checker.specs.Demand1.{Gradable, Faulty, Case}
+use Rattle.checker.proofs.Demand1.{demand-1}
 use Rattle.checker.specs.declared.Verdict.{Verdict}
 use Rattle.checker.specs.declared.Verdict.TheVariants.{Accepted, WrongLength, Overlong, Malformed, Misplaced, OutOfRange, Unlinked, Broken}
 use Rattle.session.specs.Page.{printed}

@@ -1,7 +1,7 @@
 -- `by_length` meets its contract: 1 is tested before 2.
 -- Assumes nothing.
 use mathlib.Core.Path.{sym}
-use Rattle.checker.specs.Laws.Grading.{length-wrong, length_over, length-right}
+use Rattle.checker.proofs.Laws.Grading.{length-wrong, length_over, length-right}
 use Rattle.checker.proofs.by_length.Goals as goal
 
 pub returns-then-answer-ne-ANSWER_LENGTH : goal.returns-then-answer-ne-ANSWER_LENGTH

@@ -7,7 +7,7 @@ use Rattle.frames.specs.declared.Checked.{Checked}
 use Rattle.frames.specs.declared.Outcome.TheVariants as Outcome
 use Rattle.solver.specs.Room.{has_room}
 use Rattle.checker.specs.Code.Steps.{solved_verdict, solved_bytes}
-use Rattle.checker.specs.Laws.Grading.{right-verdict, right-bytes, read-room, read-verdict, read-bytes}
+use Rattle.checker.proofs.Laws.Grading.{right-verdict, right-bytes, read-room, read-verdict, read-bytes}
 use Rattle.checker.proofs.by_lines.Goals as goal
 
 pub solved-requires : goal.solved-requires

@@ -2,7 +2,7 @@
 -- Assumes nothing.
 use mathlib.Core.Path.{sym}
 use lib.ListN.{length}
-use Rattle.checker.specs.Laws.Grading.{by_length_lem, wrong-verdict, wrong-bytes, over-verdict, over-bytes}
+use Rattle.checker.proofs.Laws.Grading.{by_length_lem, wrong-verdict, wrong-bytes, over-verdict, over-bytes}
 use Rattle.checker.proofs.grade.Goals as goal
 
 pub returns-then-refused-eq1 : goal.returns-then-refused-eq1

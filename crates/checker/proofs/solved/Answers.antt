@@ -1,7 +1,7 @@
 -- `checker::solved` meets its contract: what the solver hands over is the answer of `meaning`.
 -- Assumes nothing.
 use mathlib.Core.Path.{◌∙◌}
-use Rattle.checker.specs.Laws.Solved.{has_room_lem, accepted-verdict, accepted-bytes, broken-verdict, broken-bytes}
+use Rattle.checker.proofs.Laws.Solved.{has_room_lem, accepted-verdict, accepted-bytes, broken-verdict, broken-bytes}
 use Rattle.checker.proofs.solved.Goals as goal
 
 pub returns-in-Met : goal.returns-in-Met

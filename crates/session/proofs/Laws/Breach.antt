@@ -18,8 +18,8 @@ use Rattle.solver.specs.Laws.Findings.{declared-entry}
 use Rattle.solver.specs.declared.root.Root.{Root}
 use Rattle.solver.specs.declared.root.Root.TheVariants.{Grade, Nothing}
 use Rattle.checker.specs.Grading.{program_read, verdict_of}
-use Rattle.checker.specs.Laws.Grading.{read-program}
-use Rattle.checker.specs.Laws.Root.{root_by}
+use Rattle.checker.proofs.Laws.Grading.{read-program}
+use Rattle.checker.proofs.Laws.Root.{root_by}
 use Rattle.checker.specs.RootRead.{root_read}
 use Rattle.checker.specs.declared.Verdict.{Verdict}
 use Rattle.session.specs.Breach.{breach_length, breach_frame, breach_by, breach_of}

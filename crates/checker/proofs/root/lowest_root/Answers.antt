@@ -11,7 +11,7 @@ use Rattle.solver.specs.Root.{root_in}
 use Rattle.solver.specs.declared.root.Root.TheVariants.{Nothing}
 use Rattle.checker.specs.Grading.{program_read}
 use Rattle.checker.specs.RootRead.{root_by_reading}
-use Rattle.checker.specs.Laws.Root.{root_by, root-read}
+use Rattle.checker.proofs.Laws.Root.{root_by, root-read}
 use Rattle.checker.proofs.root.lowest_root.Goals as goal
 
 -- any other outcome than that the text is whole

@@ -3,7 +3,7 @@
 use mathlib.Core.Path.{sym, ap, ◌∙◌, subst}
 use Rattle.frames.specs.declared.Checked.{Checked}
 use Rattle.explainer.specs.Code.Lower.{Read}
-use Rattle.explainer.specs.Laws.Asked.{read-tables, asked_of}
+use Rattle.explainer.proofs.Laws.Asked.{read-tables, asked_of}
 use Rattle.explainer.proofs.asked.ask.Goals as goal
 
 pub by_reading-found-requires : goal.by_reading-found-requires

@@ -3,7 +3,7 @@
 use mathlib.Core.Path.{refl}
 use Rattle.frames.specs.declared.Outcome.TheVariants as Outcome
 use Rattle.explainer.specs.declared.asked.Reason.TheVariants as Reason
-use Rattle.explainer.specs.Laws.Asked.{read_whole, read-refused}
+use Rattle.explainer.proofs.Laws.Asked.{read_whole, read-refused}
 use Rattle.explainer.proofs.asked.by_reading.Goals as goal
 
 pub find-requires : goal.find-requires

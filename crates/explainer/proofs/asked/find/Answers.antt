@@ -2,7 +2,7 @@
 -- Assumes nothing.
 use mathlib.Core.Path.{sym, ap, ◌∙◌}
 use Rattle.explainer.specs.Code.Asked.{count_of}
-use Rattle.explainer.specs.Laws.Asked.{gives_none, solver-ready, solver-rounds, met-reason, broken-reason, some-room}
+use Rattle.explainer.proofs.Laws.Asked.{gives_none, solver-ready, solver-rounds, met-reason, broken-reason, some-room}
 use Rattle.explainer.proofs.asked.find.Goals as goal
 
 pub start_of-start-requires : goal.start_of-start-requires

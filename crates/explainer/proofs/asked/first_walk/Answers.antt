@@ -17,9 +17,9 @@ use Rattle.solver.specs.Laws.Views.{method-count}
 use Rattle.solver.specs.Laws.Flat.{fixed-declared}
 use Rattle.solver.specs.Laws.Rounds.{rounds-few}
 use Rattle.explainer.specs.Code.Before.{risen_count}
-use Rattle.explainer.specs.Laws.Before.{entry_known}
-use Rattle.explainer.specs.Laws.Places.{rises-size, methods-few, set-few}
-use Rattle.explainer.specs.Laws.Asked.{starts-declared, final-been, starts-undeclared}
+use Rattle.explainer.proofs.Laws.Before.{entry_known}
+use Rattle.explainer.proofs.Laws.Places.{rises-size, methods-few, set-few}
+use Rattle.explainer.proofs.Laws.Asked.{starts-declared, final-been, starts-undeclared}
 use Rattle.explainer.proofs.asked.first_walk.Goals as goal
 
 pub at_root-at-requires : goal.at_root-at-requires

@@ -9,7 +9,7 @@ use Rattle.meaning.specs.Lowest.{entry_count}
 use Rattle.solver.specs.Flat.{program_in}
 use Rattle.solver.specs.Laws.Views.{method-count}
 use Rattle.solver.specs.Laws.Flat.{count-read, entry-count}
-use Rattle.explainer.specs.Laws.Asked.{no-method, set_tested}
+use Rattle.explainer.proofs.Laws.Asked.{no-method, set_tested}
 use Rattle.explainer.proofs.asked.is_entry.Goals as goal
 
 pub returns-then-methods-method : goal.returns-then-methods-method

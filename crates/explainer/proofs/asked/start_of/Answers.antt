@@ -7,7 +7,7 @@ use lib.Dec.{T}
 use Rattle.solver.specs.Flat.{program_in}
 use Rattle.explainer.specs.Code.Lower.{lower_length}
 use Rattle.explainer.specs.Code.Asked.{count_of}
-use Rattle.explainer.specs.Laws.Asked.{no-entry, entry-there, too_short, all-given, gives_none}
+use Rattle.explainer.proofs.Laws.Asked.{no-entry, entry-there, too_short, all-given, gives_none}
 use Rattle.explainer.proofs.asked.start_of.Goals as goal
 
 pub returns-then-not-is_entry : goal.returns-then-not-is_entry

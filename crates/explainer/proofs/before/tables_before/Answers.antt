@@ -10,8 +10,8 @@ use Rattle.frames.specs.Tables.{cell}
 use Rattle.solver.specs.Flat.{blank}
 use Rattle.solver.specs.Laws.Flat.{done_none, done-store, done-skip, done_all, blank-length, blank-at}
 use Rattle.explainer.specs.Code.Before.{risen_count, tables_at}
-use Rattle.explainer.specs.Laws.Before.{tables-at, tables-length, past-known}
-use Rattle.explainer.specs.Laws.Places.{rises-size}
+use Rattle.explainer.proofs.Laws.Before.{tables-at, tables-length, past-known}
+use Rattle.explainer.proofs.Laws.Places.{rises-size}
 use Rattle.explainer.proofs.before.tables_before.Goals as goal
 
 pub overflow_mul-used : goal.overflow_mul-used

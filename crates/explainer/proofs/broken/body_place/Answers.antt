@@ -9,7 +9,7 @@ use Rattle.solver.specs.Flat.{program_in}
 use Rattle.solver.specs.Rises.{rises}
 use Rattle.solver.specs.Laws.Rounds.{rounds-few}
 use Rattle.explainer.specs.Code.Lower.{Ready}
-use Rattle.explainer.specs.Laws.Broken.{body-found, body-in}
+use Rattle.explainer.proofs.Laws.Broken.{body-found, body-in}
 use Rattle.explainer.proofs.broken.body_place.Goals as goal
 
 pub overflow_add-last : goal.overflow_add-last

@@ -6,8 +6,8 @@ use Prim.Native.Nat.{ℕ, ◌<◌, ◌/◌}
 use lib.ListN.{length, length-replicate}
 use Rattle.explainer.specs.Code.Lower.{lower_length}
 use Rattle.explainer.specs.Broken.{broken_steps}
-use Rattle.explainer.specs.Laws.Asked.{not_entered}
-use Rattle.explainer.specs.Laws.Broken.{no_room, all-put}
+use Rattle.explainer.proofs.Laws.Asked.{not_entered}
+use Rattle.explainer.proofs.Laws.Broken.{no_room, all-put}
 use Rattle.explainer.proofs.broken.broken_bytes.Goals as goal
 
 pub returns-then-bytes-count : goal.returns-then-bytes-count

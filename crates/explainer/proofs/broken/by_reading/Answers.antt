@@ -3,7 +3,7 @@
 use Rattle.solver.specs.Flat.{program_in}
 use Rattle.checker.specs.Grading.{by_reading}
 use Rattle.explainer.specs.Broken.{broken_by}
-use Rattle.explainer.specs.Laws.Broken.{gives_none, unread-broken, whole-broken}
+use Rattle.explainer.proofs.Laws.Broken.{gives_none, unread-broken, whole-broken}
 use Rattle.explainer.proofs.broken.by_reading.Goals as goal
 
 pub find_broken-requires : goal.find_broken-requires

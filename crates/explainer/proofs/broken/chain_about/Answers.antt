@@ -3,8 +3,8 @@
 use mathlib.Core.Path.{refl, sym, ◌∙◌}
 use Rattle.solver.specs.Flat.{program_in}
 use Rattle.explainer.specs.Broken.{chain_about}
-use Rattle.explainer.specs.Laws.Asked.{entry-there}
-use Rattle.explainer.specs.Laws.Broken.{along-body, no-about, body-about, entry-about, gives_none, gives_all}
+use Rattle.explainer.proofs.Laws.Asked.{entry-there}
+use Rattle.explainer.proofs.Laws.Broken.{along-body, no-about, body-about, entry-about, gives_none, gives_all}
 use Rattle.explainer.proofs.broken.chain_about.Goals as goal
 
 pub returns-then-not-is_entry : goal.returns-then-not-is_entry

@@ -9,8 +9,8 @@ use Rattle.checker.specs.declared.Verdict.{Verdict}
 use Rattle.explainer.specs.declared.walk.Step.{Step}
 use Rattle.explainer.specs.Broken.{chain_about, broken_by}
 use Rattle.explainer.specs.Code.Broken.{GivesAll}
-use Rattle.explainer.specs.Laws.Asked.{solver-ready, solver-rounds, met-verdict, broken-is, some-room}
-use Rattle.explainer.specs.Laws.Broken.{gives_none}
+use Rattle.explainer.proofs.Laws.Asked.{solver-ready, solver-rounds, met-verdict, broken-is, some-room}
+use Rattle.explainer.proofs.Laws.Broken.{gives_none}
 use Rattle.explainer.proofs.broken.find_broken.Goals as goal
 
 pub chain_about-chain-requires : goal.chain_about-chain-requires

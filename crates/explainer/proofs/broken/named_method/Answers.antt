@@ -17,8 +17,8 @@ use Rattle.solver.specs.Laws.Views.{method-in, method-count}
 use Rattle.solver.specs.Laws.Findings.{fork-names}
 use Rattle.solver.specs.Laws.Flat.{node-frame}
 use Rattle.explainer.specs.Code.Lower.{Ready}
-use Rattle.explainer.specs.Laws.Places.{at_first}
-use Rattle.explainer.specs.Laws.Broken.{no-method-named, no-node-named}
+use Rattle.explainer.proofs.Laws.Places.{at_first}
+use Rattle.explainer.proofs.Laws.Broken.{no-method-named, no-node-named}
 use Rattle.explainer.proofs.broken.named_method.Goals as goal
 
 pub returns-then-methods-m : goal.returns-then-methods-m

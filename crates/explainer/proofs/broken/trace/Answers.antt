@@ -6,8 +6,8 @@ use Rattle.frames.specs.declared.Checked.{Checked}
 use Rattle.explainer.specs.declared.walk.Step.{Step}
 use Rattle.explainer.specs.Code.Lower.{Read}
 use Rattle.explainer.specs.Code.Broken.{GivesAll}
-use Rattle.explainer.specs.Laws.Asked.{read-tables}
-use Rattle.explainer.specs.Laws.Broken.{broken-of}
+use Rattle.explainer.proofs.Laws.Asked.{read-tables}
+use Rattle.explainer.proofs.Laws.Broken.{broken-of}
 use Rattle.explainer.proofs.broken.trace.Goals as goal
 
 pub by_reading-found-requires : goal.by_reading-found-requires

@@ -5,7 +5,7 @@ use native.Mathlib.Omega.{arith}
 use Prim.Native.Nat.{ℕ, ◌/◌}
 use lib.ListN.{length, length-replicate}
 use Rattle.explainer.specs.Code.Lower.{lower_length}
-use Rattle.explainer.specs.Laws.Asked.{not_entered, count_room, chain-whole, bytes-put}
+use Rattle.explainer.proofs.Laws.Asked.{not_entered, count_room, chain-whole, bytes-put}
 use Rattle.explainer.proofs.bytes.explain_bytes.Goals as goal
 
 pub put_chain-requires : goal.put_chain-requires

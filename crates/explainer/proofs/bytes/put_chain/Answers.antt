@@ -5,9 +5,9 @@ use native.Mathlib.Omega.{arith}
 use Prim.Native.Nat.{ℕ}
 use Rattle.explainer.specs.Code.Walk.{chain_of}
 use Rattle.explainer.specs.Code.Bytes.{ChainPut}
-use Rattle.explainer.specs.Laws.Walk.{steps-few}
-use Rattle.explainer.specs.Laws.Bytes.{chain-none, chain_more}
-use Rattle.explainer.specs.Laws.Chains.{step_is, left-next}
+use Rattle.explainer.proofs.Laws.Walk.{steps-few}
+use Rattle.explainer.proofs.Laws.Bytes.{chain-none, chain_more}
+use Rattle.explainer.proofs.Laws.Chains.{step_is, left-next}
 use Rattle.explainer.proofs.bytes.put_chain.Goals as goal
 
 pub loop-i-init : goal.loop-i-init

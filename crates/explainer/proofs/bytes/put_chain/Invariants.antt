@@ -3,7 +3,7 @@ use Prim.Native.Nat.{◌-◌, ◌≤◌, ◌<◌}
 use lib.ListN.{length}
 use Rattle.explainer.specs.Code.Walk.{chain_of, Entered}
 use Rattle.explainer.specs.Code.Bytes.{ChainPut}
-use Rattle.explainer.specs.Laws.Chains.{Left}
+use Rattle.explainer.proofs.Laws.Chains.{Left}
 use Rattle.explainer.proofs.bytes.put_chain.Given as goal
 
 abbrev pub invariant-loop-i : goal.invariant-loop-i

@@ -5,7 +5,7 @@ use native.Mathlib.Omega.{arith}
 use Prim.Native.Nat.{ℕ, ◌*◌}
 use Rattle.explainer.specs.Explain.{step_bytes}
 use Rattle.explainer.specs.Code.Bytes.{PutAt}
-use Rattle.explainer.specs.Laws.Bytes.{put-none, put-more}
+use Rattle.explainer.proofs.Laws.Bytes.{put-none, put-more}
 use Rattle.explainer.proofs.bytes.put_step.Goals as goal
 
 pub loop-b-init : goal.loop-b-init

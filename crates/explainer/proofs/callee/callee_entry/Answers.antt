@@ -23,8 +23,8 @@ use Rattle.solver.specs.Laws.Rises.{rises-length}
 use Rattle.explainer.specs.declared.callee.Entry.{Entry}
 use Rattle.explainer.specs.Code.Before.{risen_count}
 use Rattle.explainer.specs.Code.Callee.{Meets, Best}
-use Rattle.explainer.specs.Laws.Before.{entry_known}
-use Rattle.explainer.specs.Laws.Callee.{best-start, best-passed, best-kept, best-taken}
+use Rattle.explainer.proofs.Laws.Before.{entry_known}
+use Rattle.explainer.proofs.Laws.Callee.{best-start, best-passed, best-kept, best-taken}
 use Rattle.explainer.proofs.callee.callee_entry.Goals as goal
 use Rattle.explainer.proofs.callee.callee_entry.Goals.{then-meets, else-meets}
 

@@ -15,7 +15,7 @@ use Rattle.frames.specs.Tables.{cell}
 use Rattle.meaning.specs.Meaning.{matching}
 use Rattle.solver.specs.Nodes.{node_in}
 use Rattle.explainer.specs.Code.Callee.{agrees}
-use Rattle.explainer.specs.Laws.Callee.{matching-of, matching-at}
+use Rattle.explainer.proofs.Laws.Callee.{matching-of, matching-at}
 use Rattle.explainer.proofs.callee.meets.Goals as goal
 
 -- a node lists four names

@@ -5,8 +5,8 @@ use Rattle.checker.specs.Grading.{program_read}
 use Rattle.explainer.specs.declared.walk.Step.{Step}
 use Rattle.explainer.specs.Explain.{steps_of}
 use Rattle.explainer.specs.Code.Walk.{chain_of}
-use Rattle.explainer.specs.Laws.Asked.{count-is, count_room, chain-whole, chain_steps}
-use Rattle.explainer.specs.Laws.Lists.{front_same, list-fronted}
+use Rattle.explainer.proofs.Laws.Asked.{count-is, count_room, chain-whole, chain_steps}
+use Rattle.explainer.proofs.Laws.Lists.{front_same, list-fronted}
 use Rattle.explainer.proofs.lent.explain.Goals as goal
 
 pub fill-requires-clause-n_value : goal.fill-requires-clause-n_value

@@ -5,7 +5,7 @@ use Prim.Native.Nat.{◌+◌, ◌*◌, ◌<◌}
 use lib.ListN.{length}
 use Rattle.frames.specs.Layout.{layout}
 use Rattle.solver.specs.Flat.{tables_in}
-use Rattle.explainer.specs.Laws.Lower.{sets-few, nodes-few, lower-store, lower-next, row_more}
+use Rattle.explainer.proofs.Laws.Lower.{sets-few, nodes-few, lower-store, lower-next, row_more}
 use Rattle.explainer.proofs.lower.grade_node.Goals as goal
 
 pub loop-set-init : goal.loop-set-init

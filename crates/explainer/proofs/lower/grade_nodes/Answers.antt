@@ -7,7 +7,7 @@ use lib.ListN.{length}
 use Rattle.frames.specs.Program.{method_at}
 use Rattle.solver.specs.Flat.{program_in, tables_in}
 use Rattle.explainer.specs.Code.Lower.{Lower}
-use Rattle.explainer.specs.Laws.Lower.{nodes-read, sets-read}
+use Rattle.explainer.proofs.Laws.Lower.{nodes-read, sets-read}
 use Rattle.explainer.proofs.lower.grade_nodes.Goals as goal
 
 pub loop-n-init : goal.loop-n-init

@@ -11,7 +11,7 @@ use Rattle.solver.specs.Flat.{program_in, tables_in}
 use Rattle.solver.specs.Nodes.{child_at, own_grade}
 use Rattle.solver.specs.Laws.Engine.{assembled}
 use Rattle.explainer.specs.Code.Lower.{child_grade}
-use Rattle.explainer.specs.Laws.Lower.{node-known, nodes-few, under-is, under-inside, under-few, child-known}
+use Rattle.explainer.proofs.Laws.Lower.{node-known, nodes-few, under-is, under-inside, under-few, child-known}
 use Rattle.explainer.proofs.lower.node_grade.Goals as goal
 
 pub overflow_add-first : goal.overflow_add-first

@@ -10,7 +10,7 @@ use Rattle.solver.specs.Flat.{program_in}
 use Rattle.solver.specs.Rises.{rises}
 use Rattle.solver.specs.Laws.Views.{method-in, method-count}
 use Rattle.explainer.specs.Code.Lower.{Ready}
-use Rattle.explainer.specs.Laws.Places.{root-number, set-few, at-root}
+use Rattle.explainer.proofs.Laws.Places.{root-number, set-few, at-root}
 use Rattle.explainer.proofs.places.at_root.Goals as goal
 
 pub overflow_sub-result : goal.overflow_sub-result

@@ -2,7 +2,7 @@
 -- Assumes nothing.
 use mathlib.Core.Path.{◌∙◌}
 use native.Mathlib.Omega.{arith}
-use Rattle.explainer.specs.Laws.Places.{rises-size, methods-few, set-few, root-found, root_in, grade-few, round-found}
+use Rattle.explainer.proofs.Laws.Places.{rises-size, methods-few, set-few, root-found, root_in, grade-few, round-found}
 use Rattle.explainer.proofs.places.root_place.Goals as goal
 
 pub overflow_mul-m : goal.overflow_mul-m

@@ -4,7 +4,7 @@ use mathlib.Core.Path.{sym, ap}
 use Prim.Native.Nat.{ℕ}
 use Rattle.meaning.specs.Meaning.{op_of}
 use Rattle.explainer.specs.Code.Places.{own_count}
-use Rattle.explainer.specs.Laws.Seen.{own-none}
+use Rattle.explainer.proofs.Laws.Seen.{own-none}
 use Rattle.explainer.proofs.seen.own_count.Goals as goal
 
 pub returns-in-1 : goal.returns-in-1

@@ -11,7 +11,7 @@ use Rattle.solver.specs.Nodes.{node_in}
 use Rattle.solver.specs.Laws.Views.{method-count}
 use Rattle.explainer.specs.Code.Callee.{Best}
 use Rattle.explainer.specs.Code.Places.{place_of}
-use Rattle.explainer.specs.Laws.Places.{node-few, node-here, called-few}
+use Rattle.explainer.proofs.Laws.Places.{node-few, node-here, called-few}
 use Rattle.explainer.proofs.seen.own_entry.Goals as goal
 
 pub overflow_add-j : goal.overflow_add-j

@@ -6,10 +6,10 @@ use Prim.Native.Nat.{ℕ, ◌+◌}
 use mathlib.Core.List.{[]}
 use Rattle.meaning.specs.Meaning.{op_of}
 use Rattle.solver.specs.Flat.{tables_in}
-use Rattle.explainer.specs.Laws.Lower.{sets-few, under-few}
-use Rattle.explainer.specs.Laws.Places.{node-few}
-use Rattle.explainer.specs.Laws.Seen.{own-few}
-use Rattle.explainer.specs.Laws.See.{listed-few, seen_at}
+use Rattle.explainer.proofs.Laws.Lower.{sets-few, under-few}
+use Rattle.explainer.proofs.Laws.Places.{node-few}
+use Rattle.explainer.proofs.Laws.Seen.{own-few}
+use Rattle.explainer.proofs.Laws.See.{listed-few, seen_at}
 use Rattle.explainer.proofs.seen.see.Goals as goal
 
 pub overflow_add-at : goal.overflow_add-at

@@ -9,7 +9,7 @@ use Rattle.meaning.specs.Lowest.{is_declared}
 use Rattle.reasons.specs.Steps.{root_place, call_turn}
 use Rattle.solver.specs.Flat.{program_in}
 use Rattle.solver.specs.Laws.Flat.{fixed-declared}
-use Rattle.explainer.specs.Laws.Turns.{ended, went}
+use Rattle.explainer.proofs.Laws.Turns.{ended, went}
 use Rattle.explainer.proofs.turns.call_turn.Goals as goal
 
 pub overflow_add-added : goal.overflow_add-added

@@ -5,7 +5,7 @@ use native.Mathlib.Omega.{arith}
 use Prim.Native.Nat.{ℕ}
 use Rattle.meaning.specs.Meaning.{op_of}
 use Rattle.reasons.specs.Steps.{end_rule}
-use Rattle.explainer.specs.Laws.Turns.{end_none}
+use Rattle.explainer.proofs.Laws.Turns.{end_none}
 use Rattle.explainer.proofs.turns.end_rule.Goals as goal
 
 pub returns-in-6 : goal.returns-in-6

@@ -12,8 +12,8 @@ use Rattle.reasons.specs.Steps.{node_here, root_place, callee_place, Turn, call_
 use Rattle.solver.specs.Flat.{program_in}
 use Rattle.solver.specs.Laws.Views.{method-count}
 use Rattle.explainer.specs.Code.Places.{place_of, HasBeen, TurnOf}
-use Rattle.explainer.specs.Laws.Places.{node-few, node-here, called-few}
-use Rattle.explainer.specs.Laws.Turns.{own-access, ended, callee-been}
+use Rattle.explainer.proofs.Laws.Places.{node-few, node-here, called-few}
+use Rattle.explainer.proofs.Laws.Turns.{own-access, ended, callee-been}
 use Rattle.explainer.proofs.turns.own_turn.Goals as goal
 
 pub overflow_add-at : goal.overflow_add-at

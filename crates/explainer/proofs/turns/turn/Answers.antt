@@ -7,7 +7,7 @@ use Rattle.meaning.specs.Meaning.{op_of}
 use Rattle.reasons.specs.Steps.{Place, Pick, ends, goes_on, end_rule, turn_by, turn_at}
 use Rattle.solver.specs.Flat.{program_in}
 use Rattle.explainer.specs.Code.Places.{place_of, TurnOf}
-use Rattle.explainer.specs.Laws.Turns.{child-picked, own-picked, none-picked, added-few, ended, went}
+use Rattle.explainer.proofs.Laws.Turns.{child-picked, own-picked, none-picked, added-few, ended, went}
 use Rattle.explainer.proofs.turns.turn.Goals as goal
 
 pub overflow_add-pick : goal.overflow_add-pick

@@ -6,7 +6,7 @@ use mathlib.Core.Bool.{Bool, not}
 use borrow.Author.Tests.{not-true, not-false}
 use lib.Dec.{T}
 use lib.ListN.{length}
-use Rattle.explainer.specs.Laws.Walk.{some_left, steps-few}
+use Rattle.explainer.proofs.Laws.Walk.{some_left, steps-few}
 use Rattle.explainer.proofs.walk.chain_length.Goals as goal
 
 pub loop-one-init : goal.loop-one-init

@@ -9,7 +9,7 @@ use Rattle.meaning.specs.Meaning.{Assignment}
 use Rattle.solver.specs.Flat.{program_in, tables_in}
 use Rattle.explainer.specs.Code.Before.{tables_at}
 use Rattle.explainer.specs.Code.Lower.{Lower}
-use Rattle.explainer.specs.Laws.Before.{tables-known}
+use Rattle.explainer.proofs.Laws.Before.{tables-known}
 use Rattle.explainer.proofs.walk.enter.Goals as goal
 
 -- the same in the same tables

@@ -1,6 +1,6 @@
 -- `explainer::walk::give` meets its contract.
 -- Assumes nothing.
-use Rattle.explainer.specs.Laws.Walk.{given-asked, given-step, lower-stays}
+use Rattle.explainer.proofs.Laws.Walk.{given-asked, given-step, lower-stays}
 use Rattle.explainer.proofs.walk.give.Goals as goal
 
 pub declared_step-step-requires : goal.declared_step-step-requires

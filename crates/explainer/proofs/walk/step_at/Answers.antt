@@ -3,8 +3,8 @@
 use native.Mathlib.Omega.{arith}
 use Rattle.reasons.specs.Steps.{step_at}
 use Rattle.solver.specs.Laws.Rounds.{rounds-few}
-use Rattle.explainer.specs.Laws.Places.{methods-few, node-few}
-use Rattle.explainer.specs.Laws.Walk.{placed-next}
+use Rattle.explainer.proofs.Laws.Places.{methods-few, node-few}
+use Rattle.explainer.proofs.Laws.Walk.{placed-next}
 use Rattle.explainer.proofs.walk.step_at.Goals as goal
 
 pub picked_part-pick-requires : goal.picked_part-pick-requires

@@ -22,7 +22,7 @@ use Rattle.explainer.specs.declared.walk.Walk.{Walk}
 use Rattle.explainer.specs.declared.walk.Given.{Given}
 use Rattle.explainer.specs.Explain.{step_of}
 use Rattle.explainer.specs.Code.Walk.{StepIs, chain_of, Going, GivenAt}
-use Rattle.explainer.specs.Laws.Places.{node-few}
+use Rattle.explainer.proofs.Laws.Places.{node-few}
 
 goes_on_lem : (on : Bool) (to : Place) → T on → next_by on to ≡ goes_on (place_of to)
 goes_on_lem true to t = refl

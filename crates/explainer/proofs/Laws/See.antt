@@ -19,10 +19,10 @@ use Rattle.explainer.specs.declared.seen.Seen.{Seen}
 use Rattle.explainer.specs.Code.Lower.{Ready, child_grade}
 use Rattle.explainer.specs.Code.Picks.{part_at}
 use Rattle.explainer.specs.Code.Places.{place_of, PlaceIn, NodeLower, own_count, OwnEntry, child_number, SeenAt}
-use Rattle.explainer.specs.Laws.Lower.{under-is, under-inside, child-known, lower-fewer}
-use Rattle.explainer.specs.Laws.Callee.{grade-found, callee-found}
-use Rattle.explainer.specs.Laws.Places.{node-here}
-use Rattle.explainer.specs.Laws.Seen.{own-apart, call-number, own-few, parts-count, part-child, part-own}
+use Rattle.explainer.proofs.Laws.Lower.{under-is, under-inside, child-known, lower-fewer}
+use Rattle.explainer.proofs.Laws.Callee.{grade-found, callee-found}
+use Rattle.explainer.proofs.Laws.Places.{node-here}
+use Rattle.explainer.proofs.Laws.Seen.{own-apart, call-number, own-few, parts-count, part-child, part-own}
 
 pub listed-few : (op : ℕ) → children_listed op ≤ 3
 unfolding children_listed

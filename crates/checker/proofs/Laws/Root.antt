@@ -10,7 +10,7 @@ use Rattle.frames.specs.declared.Outcome.TheVariants.{Whole}
 use Rattle.solver.specs.Root.{lowest_root, root_in}
 use Rattle.solver.specs.Laws.Root.{root-room}
 use Rattle.checker.specs.Grading.{program_read}
-use Rattle.checker.specs.Laws.Grading.{read-room, read-program}
+use Rattle.checker.proofs.Laws.Grading.{read-room, read-program}
 use Rattle.checker.specs.RootRead.{root_by_reading, root_read}
 
 module _ (text : List ℕ) (m H : ℕ) where

@@ -13,7 +13,7 @@ use Rattle.meaning.specs.Lowest.{method_count}
 use Rattle.meaning.specs.Constraints.{answer}
 use Rattle.solver.specs.Room.{has_room}
 use Rattle.checker.specs.Grading.{program_read, by_answer, by_reading, verdict_of, bytes_by_answer, bytes_by_reading, answer_of}
-use Rattle.checker.specs.Laws.Room.{well-formed-room}
+use Rattle.checker.proofs.Laws.Room.{well-formed-room}
 use Rattle.checker.specs.Code.Steps.{by_length, solved_verdict, solved_bytes}
 use Rattle.checker.specs.declared.Verdict.TheVariants.{WrongLength, Overlong}
 use Rattle.solver.specs.Flat.{program_in}

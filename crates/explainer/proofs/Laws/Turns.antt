@@ -25,9 +25,9 @@ use Rattle.explainer.specs.declared.places.Onward.{Onward}
 use Rattle.explainer.specs.declared.seen.Seen.{Seen}
 use Rattle.explainer.specs.Code.Picks.{LastOf, PickedAt, same, twice, nothing, part_at, picked_at}
 use Rattle.explainer.specs.Code.Places.{place_of, PlaceIn, HasBeen, SeenAt, child_number, TurnOf}
-use Rattle.explainer.specs.Laws.Picks.{pick-by-number}
-use Rattle.explainer.specs.Laws.Places.{called-few}
-use Rattle.explainer.specs.Laws.Seen.{call-number}
+use Rattle.explainer.proofs.Laws.Picks.{pick-by-number}
+use Rattle.explainer.proofs.Laws.Places.{called-few}
+use Rattle.explainer.proofs.Laws.Seen.{call-number}
 
 -- ---- a call whose own part is picked has a grade over const
 

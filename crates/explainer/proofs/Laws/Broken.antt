@@ -26,7 +26,7 @@ use Rattle.solver.specs.Flat.{program_in}
 use Rattle.solver.specs.Laws.Views.{method-past}
 use Rattle.checker.specs.Grading.{program_read, by_reading}
 use Rattle.checker.specs.Code.Steps.{solved_verdict}
-use Rattle.checker.specs.Laws.Grading.{right-verdict, read-program}
+use Rattle.checker.proofs.Laws.Grading.{right-verdict, read-program}
 use Rattle.checker.specs.declared.Verdict.{Verdict}
 use Rattle.explainer.specs.declared.places.Place.{Place}
 use Rattle.explainer.specs.declared.walk.Walk.{Walk}
@@ -40,8 +40,8 @@ use Rattle.explainer.specs.Code.Asked.{Along}
 use Rattle.explainer.specs.Code.Bytes.{ChainPut}
 use Rattle.explainer.specs.declared.broken.Found.{Found}
 use Rattle.explainer.specs.Code.Broken.{GivesAll, FoundBroken, ReadBroken}
-use Rattle.explainer.specs.Laws.Walk.{chain-here, some-round}
-use Rattle.explainer.specs.Laws.Bytes.{chain-all, nothing_put, no_bytes}
+use Rattle.explainer.proofs.Laws.Walk.{chain-here, some-round}
+use Rattle.explainer.proofs.Laws.Bytes.{chain-all, nothing_put, no_bytes}
 
 -- ---- a method's root in the lowest tables
 

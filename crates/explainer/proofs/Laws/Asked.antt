@@ -31,11 +31,11 @@ use Rattle.solver.specs.declared.rises.Risen.{Risen}
 use Rattle.solver.specs.declared.constraints.Finding.TheVariants as solver
 use Rattle.solver.specs.declared.constraints.Finding.TheVariants.{Met}
 use Rattle.checker.specs.Code.Steps.{solved_verdict}
-use Rattle.checker.specs.Laws.Room.{well-formed-room}
-use Rattle.checker.specs.Laws.Solved.{accepted-verdict, broken-verdict, has_room_lem}
+use Rattle.checker.proofs.Laws.Room.{well-formed-room}
+use Rattle.checker.proofs.Laws.Solved.{accepted-verdict, broken-verdict, has_room_lem}
 use Rattle.checker.specs.Grading.{program_read, by_reading, verdict_of}
 use Rattle.checker.specs.declared.Verdict.{Verdict}
-use Rattle.checker.specs.Laws.Grading.{right-verdict, read-room, read-program}
+use Rattle.checker.proofs.Laws.Grading.{right-verdict, read-room, read-program}
 use Rattle.explainer.specs.declared.asked.Reason.{Reason}
 use Rattle.explainer.specs.declared.asked.Reason.TheVariants.{Explained, Overlong, Malformed, Misplaced, OutOfRange, Unlinked, Broken, NoEntry, TooShort}
 use Rattle.explainer.specs.declared.asked.Found.{Found}
@@ -48,9 +48,9 @@ use Rattle.explainer.specs.Code.Places.{place_of, PlaceIn, AtRoot, HasBeen}
 use Rattle.explainer.specs.Code.Walk.{chain_of, Entered}
 use Rattle.explainer.specs.Code.Bytes.{ChainPut}
 use Rattle.explainer.specs.declared.asked.Asked.{Asked}
-use Rattle.explainer.specs.Laws.Bytes.{chain-all, nothing_put, no_bytes}
+use Rattle.explainer.proofs.Laws.Bytes.{chain-all, nothing_put, no_bytes}
 use Rattle.explainer.specs.Code.Asked.{Along, StartsAt, Gives, count_of, FoundIn, ReadAs, AskedOf}
-use Rattle.explainer.specs.Laws.Walk.{asked-chain, chain-here, some-round}
+use Rattle.explainer.proofs.Laws.Walk.{asked-chain, chain-here, some-round}
 
 -- ---- what is asked for exists, or not
 

@@ -31,8 +31,8 @@ use Rattle.explainer.specs.declared.places.Place.{Place}
 use Rattle.explainer.specs.Code.Before.{round_at}
 use Rattle.explainer.specs.Code.Lower.{Ready}
 use Rattle.explainer.specs.Code.Places.{place_of, PlaceIn, AtRoot, HasBeen}
-use Rattle.explainer.specs.Laws.Before.{round-known}
-use Rattle.explainer.specs.Laws.Lower.{nodes-few, node-known}
+use Rattle.explainer.proofs.Laws.Before.{round-known}
+use Rattle.explainer.proofs.Laws.Lower.{nodes-few, node-known}
 
 module _ (t noted : List ℕ) (ready : Ready t noted) where
   pub rises-size : length noted ≡ rises_length
