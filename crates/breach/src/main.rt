@@ -13,5 +13,5 @@ fn main(rt: HostRuntime) -> io::Result<()> {
     }
     let mut page = [0u8; session::BREACH_LENGTH];
     let count = session::breach(&text[..input.count], &mut page);
-    streams::print(&rt, &page, count)
+    streams::print(&mut rt.stdout(), &page, count)
 }

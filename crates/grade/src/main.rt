@@ -12,5 +12,5 @@ fn main(rt: HostRuntime) -> io::Result<()> {
     }
     let mut page = [0u8; session::LONGEST_SESSION];
     let count = session::session(&text[..input.count], &mut page);
-    streams::print(&rt, &page, count)
+    streams::print(&mut rt.stdout(), &page, count)
 }

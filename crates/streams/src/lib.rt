@@ -1,6 +1,8 @@
 // What programs read and write. Only a read of 0 bytes ends an input: where a read fails it is unknown what else there was.
 #![tactic(auto)]
 
+ghost use Rattle.std.specs.Io.KnownBytes.{Appends, Keeps};
+ghost use Rattle.std.specs.Prelude.{◌≡◌, ◌<◌, ◌≤◌, length, take, IsNone, IfSome, OnOk};
 ghost use Rattle.streams.specs.Counts.{IsPrefixLen};
 
 use std::env::{Env, FillError};
@@ -15,10 +17,11 @@ pub struct Input {
     pub failed: Option<io::Error>,
 }
 
-// Reads until the input ends, the buffer is full or a read fails, as one does that a signal interrupts. Which bytes were read no
-// contract can say: they come from outside.
+// Reads until the input ends, the buffer is full or a read fails, as one does that a signal interrupts. Where it is known what the
+// reader gives, and no read failed, that stands in the buffer, as far as it has room. Which bytes come from outside no contract can say.
 pub fn read_all<R: Read>(reader: &mut R, buffer: &mut [u8]) -> Input
-    ensures { IsPrefixLen result.count buffer.new }
+    ensures count { IsPrefixLen result.count buffer.new }
+    ensures whole { IsNone result.failed → IfSome (R.remaining reader.old) (λ bytes. take result.count buffer.new ≡ take (length buffer.new) bytes) }
 {
     let mut done: usize = 0;
     while done < buffer.len() {
@@ -111,10 +114,69 @@ pub fn argument<R: Env>(rt: &R, i: usize, buffer: &mut [u8]) -> usize
     rt.arg(i, buffer).unwrap_or(0)
 }
 
-// Writes the front of a page to standard output; nothing where the page has fewer bytes. That it arrived no contract can say.
-pub fn print<P: Print>(rt: &P, page: &[u8], count: usize) -> io::Result<()> {
+// Writes the front of a page; nothing where the page has fewer bytes. That it arrived at standard output no contract can say.
+pub fn print<W: Write>(out: &mut W, page: &[u8], count: usize) -> io::Result<()>
+    ensures front { count ≤ length page.now → OnOk result (Appends (W.contents out.old) (W.contents out.new) (take count page.now)) }
+    ensures nothing { length page.now < count → OnOk result (Keeps (W.contents out.old) (W.contents out.new)) }
+{
     if count <= page.len() {
-        rt.write_all(&page[..count])?;
+        out.write_all(&page[..count])?;
     }
     Ok(())
+}
+
+#[cfg(test)]
+mod tests {
+    use super::*;
+
+    // Gives two bytes, and from then on its reads fail.
+    #[derive(Drop)]
+    struct Torn {
+        given: bool,
+    }
+
+    impl Read for Torn {
+        fn read(&mut self, buf: &mut [u8]) -> io::Result<usize> {
+            if self.given {
+                return Err(io::Error::from(ErrorKind::Interrupted));
+            }
+            self.given = true;
+            let Some(room) = buf.get_mut(..2) else {
+                return Ok(0);
+            };
+            room.copy_from_slice(b"ab");
+            Ok(2)
+        }
+    }
+
+    // A read that fails is no end.
+    #[test]
+    fn tells_of_a_failed_read(rt: HostRuntime) {
+        let mut buffer = [0u8; 8];
+        let input = read_all(&mut Torn { given: false }, &mut buffer);
+        assert_eq!(rt; input.count, 2);
+        assert!(rt; input.failed.is_some());
+        assert_eq!(rt; &buffer[..2], b"ab".as_slice());
+    }
+
+    #[test]
+    fn reads_to_the_end_or_as_far_as_there_is_room(rt: HostRuntime) {
+        let mut buffer = [0u8; 3];
+        let whole = read_all(&mut b"ab".as_slice(), &mut buffer);
+        assert_eq!(rt; whole.count, 2);
+        assert!(rt; whole.failed.is_none());
+        let full = read_all(&mut b"abcd".as_slice(), &mut buffer);
+        assert_eq!(rt; full.count, 3);
+        assert!(rt; full.failed.is_none());
+        assert_eq!(rt; &buffer[..], b"abc".as_slice());
+    }
+
+    #[test]
+    fn prints_the_front(rt: HostRuntime) -> io::Result<()> {
+        let mut out = Vec::new(rt.alloc());
+        print(&mut out, b"abc", 2)?;
+        print(&mut out, b"abc", 4)?;
+        assert_eq!(rt; out.as_slice(), b"ab".as_slice());
+        Ok(())
+    }
 }

@@ -14,7 +14,7 @@ const NAME_ROOM: usize = 256;
 fn grade_text<R: Print>(rt: &R, text: &[u8]) -> io::Result<()> {
     let mut page = [0u8; session::LONGEST_SESSION];
     let count = session::session(text, &mut page);
-    streams::print(rt, &page, count)
+    streams::print(&mut io::writer(rt), &page, count)
 }
 
 fn grade_file<R: Files + Print + Eprint>(rt: &R, name: &[u8]) -> io::Result<()> {
