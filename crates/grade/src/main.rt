@@ -1,16 +1,16 @@
 // The grading program: a text on standard input, its session's frames on standard output, and nothing else there.
 #![tactic(auto)]
 
-use libc::STDIN_FILENO;
+use std::io;
 
 // Where a read fails the text is not known, and nothing is printed.
-fn main() {
+fn main(rt: HostRuntime) -> io::Result<()> {
     let mut text = [0u8; session::TEXT_ROOM];
-    let input = streams::read_all(STDIN_FILENO, &mut text);
-    if input.failed {
-        return;
+    let input = streams::read_all(&mut rt.stdin(), &mut text);
+    if let Some(error) = input.failed {
+        return Err(error);
     }
     let mut page = [0u8; session::LONGEST_SESSION];
     let count = session::session(&text[..input.count], &mut page);
-    streams::print(&page, count);
+    streams::print(&mut rt.stdout(), &page, count)
 }

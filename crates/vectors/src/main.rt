@@ -1,37 +1,44 @@
 // Grades each text that an argument names: writes the name, then the session's lines.
 #![tactic(auto)]
 
-use libc::STDOUT_FILENO;
+use std::env::Env;
+use std::io;
+use std::rt::Files;
 
-fn grade_text(text: &[u8]) {
+// Room for a text. Of a longer one these bytes are enough, since it is refused for its length alone.
+const TEXT_ROOM: usize = 65536;
+
+// The longest name of a file that is read.
+const NAME_ROOM: usize = 256;
+
+fn grade_text<R: Print>(rt: &R, text: &[u8]) -> io::Result<()> {
     let mut page = [0u8; session::LONGEST_SESSION];
     let count = session::session(text, &mut page);
-    streams::print(&page, count);
+    streams::print(&mut io::writer(rt), &page, count)
 }
 
-fn grade_file(name: &[u8]) {
-    let mut text = io::large_buffer();
-    let input = streams::read_file(name, &mut text);
-    if input.failed {
-        return;
+fn grade_file<R: Files + Print + Eprint>(rt: &R, name: &[u8]) -> io::Result<()> {
+    let mut text = [0u8; TEXT_ROOM];
+    let input = streams::read_file(rt, name, &mut text);
+    if input.failed.is_some() {
+        return Ok(());
     }
-    grade_text(&text[..input.count]);
+    grade_text(rt, &text[..input.count])
 }
 
-fn grade_argument(i: usize) {
-    let mut space = [0u8; 256];
-    let n = os::arg(i, &mut space);
+fn grade_argument<R: Env + Files + Print + Eprint>(rt: &R, i: usize) -> io::Result<()> {
+    let mut space = [0u8; NAME_ROOM];
+    let n = streams::argument(rt, i, &mut space);
     let name = &space[..n];
-    io::write_all(STDOUT_FILENO, name);
-    io::write_all(STDOUT_FILENO, b"\n");
-    grade_file(name);
+    rt.write_all(name)?;
+    rt.write_all(b"\n")?;
+    grade_file(rt, name)
 }
 
-fn main() {
-    let count = os::arg_count();
-    let mut i: usize = 1;
-    while i < count {
-        grade_argument(i);
-        i = i + 1;
+fn main(rt: HostRuntime) -> io::Result<()> {
+    let count = streams::argument_count(&rt);
+    for i in 1..count {
+        grade_argument(&rt, i)?;
     }
+    Ok(())
 }

@@ -5,11 +5,13 @@
 // Of a file that cannot be read nothing is printed. What is no question ends the run.
 #![tactic(auto)]
 
-ghost use Rattle.std.specs.Prelude.{◌+◌, ◌<◌, ◌≤◌, ◌^◌};
-ghost use Rattle.io.specs.Counts.{IsPrefixLen};
+ghost use Rattle.std.specs.Prelude.{◌+◌, ◌<◌, ◌≤◌, ◌^◌, IfOk};
+ghost use Rattle.streams.specs.Counts.{IsPrefixLen};
 
 use explainer::Reason;
-use libc::STDOUT_FILENO;
+use std::env::Env;
+use std::io;
+use std::rt::Files;
 use streams::Input;
 
 // Room for the steps of any reason, eight bytes each.
@@ -21,11 +23,20 @@ const METHODS: usize = 64;
 // The most held sets of a method.
 const SETS: usize = 16;
 
+// Room for a text. Of a longer one these bytes are enough, since it is refused for its length alone.
+const TEXT_ROOM: usize = 65536;
+
+// Room for the name of a file. A longer argument counts as an empty name.
+const NAME_ROOM: usize = 4096;
+
+// Room for a word and for a number. A longer argument is neither.
+const WORD_ROOM: usize = 8;
+
 // A number that no method and no held set has.
 const NO_NUMBER: usize = 65535;
 
 // What is asked for.
-#[derive(Drop)]
+#[derive(Clone, Copy)]
 enum Word {
     One,
     All,
@@ -40,7 +51,7 @@ fn digit(d: u8) -> u8 {
 }
 
 // Writes a line of nine bytes: two digits each, and 0A.
-fn write_line(first: u8, bytes: [u8; 8]) {
+fn write_line<R: Print>(rt: &R, first: u8, bytes: [u8; 8]) -> io::Result<()> {
     let line = [
         digit(first / 16 % 16),
         digit(first % 16),
@@ -62,33 +73,29 @@ fn write_line(first: u8, bytes: [u8; 8]) {
         digit(bytes[7] % 16),
         10,
     ];
-    io::write_all(STDOUT_FILENO, &line);
+    rt.write_all(&line)
 }
 
 // Writes the line of a step, of its eight bytes.
-fn write_step(step: &[u8]) {
+fn write_step<R: Print>(rt: &R, step: &[u8]) -> io::Result<()> {
     if step.len() == 8 {
         write_line(
+            rt,
             0x13,
             [
                 step[0], step[1], step[2], step[3], step[4], step[5], step[6], step[7],
             ],
-        );
+        )?;
     }
+    Ok(())
 }
 
 // Writes a line for each of some steps.
-fn write_steps(bytes: &[u8], count: usize) {
-    let mut at: usize = 0;
-    let mut i: usize = 0;
-    while i < count {
-        if bytes.len() - at < 8 {
-            return;
-        }
-        write_step(&bytes[at..at + 8]);
-        at = at + 8;
-        i = i + 1;
+fn write_steps<R: Print>(rt: &R, bytes: &[u8], count: usize) -> io::Result<()> {
+    for step in bytes.chunks_exact(8).take(count) {
+        write_step(rt, step)?;
     }
+    Ok(())
 }
 
 fn high(n: usize) -> u8 {
@@ -100,8 +107,17 @@ fn low(n: usize) -> u8 {
 }
 
 // Writes a refusal's line.
-fn refuse(number: u8, line: usize, method: usize, kind: usize, node: usize, set: usize) {
+fn refuse<R: Print>(
+    rt: &R,
+    number: u8,
+    line: usize,
+    method: usize,
+    kind: usize,
+    node: usize,
+    set: usize,
+) -> io::Result<()> {
     write_line(
+        rt,
         0x1F,
         [
             number,
@@ -113,89 +129,82 @@ fn refuse(number: u8, line: usize, method: usize, kind: usize, node: usize, set:
             low(node),
             low(set),
         ],
-    );
+    )
 }
 
 // Writes the steps of a reason, or the refusal.
-fn write_reason(reason: Reason, bytes: &[u8]) {
+fn write_reason<R: Print>(rt: &R, reason: Reason, bytes: &[u8]) -> io::Result<()> {
     match reason {
-        Reason::Explained(count) => write_steps(bytes, count),
-        Reason::Overlong => refuse(2, 0, 0, 0, 0, 0),
-        Reason::Malformed(line) => refuse(3, line, 0, 0, 0, 0),
-        Reason::Misplaced(line) => refuse(4, line, 0, 0, 0, 0),
-        Reason::OutOfRange(line) => refuse(5, line, 0, 0, 0, 0),
-        Reason::Unlinked(line) => refuse(6, line, 0, 0, 0, 0),
+        Reason::Explained(count) => write_steps(rt, bytes, count),
+        Reason::Overlong => refuse(rt, 2, 0, 0, 0, 0, 0),
+        Reason::Malformed(line) => refuse(rt, 3, line, 0, 0, 0, 0),
+        Reason::Misplaced(line) => refuse(rt, 4, line, 0, 0, 0, 0),
+        Reason::OutOfRange(line) => refuse(rt, 5, line, 0, 0, 0, 0),
+        Reason::Unlinked(line) => refuse(rt, 6, line, 0, 0, 0, 0),
         Reason::Broken {
             method,
             kind,
             node,
             set,
-        } => refuse(7, 0, method, kind, node, set),
-        Reason::NoEntry => refuse(10, 0, 0, 0, 0, 0),
-        Reason::TooShort(_count) => refuse(11, 0, 0, 0, 0, 0),
+        } => refuse(rt, 7, 0, method, kind, node, set),
+        Reason::NoEntry => refuse(rt, 10, 0, 0, 0, 0, 0),
+        Reason::TooShort(_count) => refuse(rt, 11, 0, 0, 0, 0, 0),
     }
 }
 
 // Writes the line `why METHOD SET`.
-fn write_question(method: usize, set: usize) {
-    io::write_all(STDOUT_FILENO, b"why ");
-    io::print_decimal(STDOUT_FILENO, method as u64);
-    io::write_all(STDOUT_FILENO, b" ");
-    io::print_decimal(STDOUT_FILENO, set as u64);
-    io::write_all(STDOUT_FILENO, b"\n");
+fn write_question<R: Print>(rt: &R, method: usize, set: usize) -> io::Result<()> {
+    println!(rt; "why {method} {set}")
 }
 
 // ---- texts
 
-fn explain_one(text: &[u8], method: usize, set: usize) {
+fn explain_one<R: Print>(rt: &R, text: &[u8], method: usize, set: usize) -> io::Result<()> {
     let mut bytes = [0u8; MOST_BYTES];
     let reason = explainer::explain_bytes(text, method, set, &mut bytes);
-    write_question(method, set);
-    write_reason(reason, &bytes);
+    write_question(rt, method, set)?;
+    write_reason(rt, reason, &bytes)
 }
 
 // Explains an entry, and tells whether there is one. A refused text has none, and its refusal is written.
-fn explain_entry(text: &[u8], method: usize, set: usize) -> bool {
+fn explain_entry<R: Print>(rt: &R, text: &[u8], method: usize, set: usize) -> io::Result<bool> {
     let mut bytes = [0u8; MOST_BYTES];
     let reason = explainer::explain_bytes(text, method, set, &mut bytes);
     if let Reason::NoEntry = reason {
-        return false;
+        return Ok(false);
     }
     if let Reason::Explained(count) = reason {
-        write_question(method, set);
-        write_steps(&bytes, count);
-        return true;
+        write_question(rt, method, set)?;
+        write_steps(rt, &bytes, count)?;
+        return Ok(true);
     }
-    write_reason(reason, &bytes);
-    false
+    write_reason(rt, reason, &bytes)?;
+    Ok(false)
 }
 
 // Explains a method's entries, and tells whether there are any.
-fn explain_method(text: &[u8], method: usize) -> bool {
-    let mut set: usize = 0;
-    while set < SETS {
-        if !explain_entry(text, method, set) {
-            return 0 < set;
+fn explain_method<R: Print>(rt: &R, text: &[u8], method: usize) -> io::Result<bool> {
+    for set in 0..SETS {
+        if !explain_entry(rt, text, method, set)? {
+            return Ok(0 < set);
         }
-        set = set + 1;
     }
-    true
+    Ok(true)
 }
 
-fn explain_all(text: &[u8]) {
-    let mut method: usize = 0;
-    while method < METHODS {
-        if !explain_method(text, method) {
-            return;
+fn explain_all<R: Print>(rt: &R, text: &[u8]) -> io::Result<()> {
+    for method in 0..METHODS {
+        if !explain_method(rt, text, method)? {
+            break;
         }
-        method = method + 1;
     }
+    Ok(())
 }
 
-fn explain_broken(text: &[u8]) {
+fn explain_broken<R: Print>(rt: &R, text: &[u8]) -> io::Result<()> {
     let mut bytes = [0u8; MOST_BYTES];
     let count = explainer::broken_bytes(text, &mut bytes);
-    write_steps(&bytes, count);
+    write_steps(rt, &bytes, count)
 }
 
 // ---- arguments
@@ -220,36 +229,29 @@ fn number(digits: &[u8]) -> usize {
         return NO_NUMBER;
     }
     let mut n: usize = 0;
-    let mut i: usize = 0;
-    while i < digits.len() {
-        n = behind(n, digits[i]);
-        i = i + 1;
+    for digit in digits {
+        n = behind(n, *digit);
     }
     n
 }
 
 // The number that argument i is.
-fn number_at(i: usize) -> usize {
-    let mut space = [0u8; 8];
-    let n = os::arg(i, &mut space);
+fn number_at<R: Env>(rt: &R, i: usize) -> usize {
+    let mut space = [0u8; WORD_ROOM];
+    let n = streams::argument(rt, i, &mut space);
     number(&space[..n])
 }
 
 // What argument i asks for.
-fn word_at(i: usize) -> Word {
-    let mut space = [0u8; 8];
-    let n = os::arg(i, &mut space);
-    let word = &space[..n];
-    if check::same(word, b"one") {
-        return Word::One;
+fn word_at<R: Env>(rt: &R, i: usize) -> Word {
+    let mut space = [0u8; WORD_ROOM];
+    let n = streams::argument(rt, i, &mut space);
+    match &space[..n] {
+        b"one" => Word::One,
+        b"all" => Word::All,
+        b"broken" => Word::Broken,
+        _ => Word::Unknown,
     }
-    if check::same(word, b"all") {
-        return Word::All;
-    }
-    if check::same(word, b"broken") {
-        return Word::Broken;
-    }
-    Word::Unknown
 }
 
 // How many arguments a question has.
@@ -263,56 +265,57 @@ fn arguments(word: Word) -> usize {
 }
 
 // Reads the file that argument i names.
-fn read_at(i: usize, text: &mut [u8]) -> Input
+fn read_at<R: Env + Files + Eprint>(rt: &R, i: usize, text: &mut [u8]) -> Input
     ensures { IsPrefixLen result.count text.new }
 {
-    let mut space = io::buffer();
-    let n = os::arg(i, &mut space);
-    streams::read_file(&space[..n], text)
+    let mut space = [0u8; NAME_ROOM];
+    let n = streams::argument(rt, i, &mut space);
+    streams::read_file(rt, &space[..n], text)
 }
 
 // Answers a question of a text; argument `end` is the first behind the question.
-fn answer(word: Word, text: &[u8], end: usize)
+fn answer<R: Env + Print>(rt: &R, word: Word, text: &[u8], end: usize) -> io::Result<()>
     requires { 2 ≤ end }
 {
     match word {
-        Word::One => explain_one(text, number_at(end - 2), number_at(end - 1)),
-        Word::All => explain_all(text),
-        Word::Broken => explain_broken(text),
-        Word::Unknown => (),
+        Word::One => explain_one(rt, text, number_at(rt, end - 2), number_at(rt, end - 1)),
+        Word::All => explain_all(rt, text),
+        Word::Broken => explain_broken(rt, text),
+        Word::Unknown => Ok(()),
     }
 }
 
 // Answers the question that starts with argument i, where so many are left, and tells how many it has; 0 where there is none.
-fn ask(i: usize, left: usize) -> usize
+fn ask<R: Env + Files + Print + Eprint>(rt: &R, i: usize, left: usize) -> io::Result<usize>
     requires { (0 < i) × (i + left < 2 ^ 64) }
-    ensures { result ≤ left }
+    ensures { IfOk result (λ count. count ≤ left) }
 {
-    let word = word_at(i);
+    let word = word_at(rt, i);
     let count = arguments(word);
     if left < count {
-        return 0;
+        return Ok(0);
     }
     if count == 0 {
-        return 0;
+        return Ok(0);
     }
-    let mut text = io::large_buffer();
-    let input = read_at(i + 1, &mut text);
-    if input.failed {
-        return count;
+    let mut text = [0u8; TEXT_ROOM];
+    let input = read_at(rt, i + 1, &mut text);
+    if input.failed.is_some() {
+        return Ok(count);
     }
-    answer(word, &text[..input.count], i + count);
-    count
+    answer(rt, word, &text[..input.count], i + count)?;
+    Ok(count)
 }
 
-fn main() {
-    let count = os::arg_count();
+fn main(rt: HostRuntime) -> io::Result<()> {
+    let count = streams::argument_count(&rt);
     let mut i: usize = 1;
     while i < count {
-        let asked = ask(i, count - i);
+        let asked = ask(&rt, i, count - i)?;
         if asked == 0 {
-            return;
+            break;
         }
         i = i + asked;
     }
+    Ok(())
 }
