@@ -1,14 +1,13 @@
 # Builds the proved checker's archive and installs it. Sourced by run and install, with `harness` set to this folder.
 #
-# The kit's archive is for x86-64. For another processor the module that the kit compiles it from is compiled for that
-# processor, by the same compiler.
+# The kit, and so its archive, is for x86-64.
 # shellcheck shell=sh
 
 top=$(cd "$harness/.." && pwd -P)
 machine=$(uname -m)
 built=$harness/target/run
-kit_archive=$top/target/staticlib/libexports.a
-module=$top/target/staticlib/module.bc
+kit_archive=$top/crates/exports/out/libexports.a
+module=$top/crates/exports/out/module.bc
 
 say() { printf 'harness: %s\n' "$*"; }
 
@@ -26,38 +25,15 @@ quietly() {
 is_foreign() { [ "$machine" != x86_64 ]; }
 
 find_kit() {
-    rt=$(command -v rt) || fail 'no rt on the path'
-    rt=$(readlink -f "$rt")
-    home=${RATTLE_HOME:-$(dirname "$(dirname "$rt")")}
-    own=$home/on/$machine
+    command -v rt >/dev/null || fail 'no rt on the path'
+    is_foreign && fail 'the kit is for x86-64 alone'
+    own=$(dirname "$(rt doc)")
     tools=$own/toolchain
 }
 
-# Links to the kit's files, but for a compiler that keeps the module it is given beside the archive.
-make_keeping_kit() { # FOLDER
-    rm -rf "$1"
-    mkdir -p "$1/on/$machine/toolchain/bin"
-    # In each folder ln refuses the one name that is there already, and links the others.
-    for part in . "on/$machine" "on/$machine/toolchain" "on/$machine/toolchain/bin"; do
-        ln -s "$home/$part"/* "$1/$part" 2>/dev/null || :
-    done
-    rm "$1/on/$machine/toolchain/bin/clang"
-    cat >"$1/on/$machine/toolchain/bin/clang" <<EOF
-#!/bin/sh
-for word in "\$@"; do case \$word in *.bc) cp "\$word" "$module" ;; esac; done
-exec "$tools/bin/clang" "\$@"
-EOF
-    chmod +x "$1/on/$machine/toolchain/bin/clang"
-}
-
-# Proves the checker and writes the kit's archive of it, and the module too where that is to be compiled again.
+# Proves the checker and writes the kit's archive of it.
 build_archive() {
-    kit=$home
-    if is_foreign; then
-        kit=$built/kit
-        make_keeping_kit "$kit"
-    fi
-    (cd "$top" && RATTLE_HOME=$kit rt staticlib exports)
+    (cd "$top/crates/exports" && rt lib)
 }
 
 # Makes an archive for this machine's processor of the module.

@@ -1,4 +1,4 @@
--- The one call, and the user's three demands of it: `Grading` defines what it gives; each demand is a theorem of it; `Unnamed` says what has no effect; `NotHeld` what
+-- The one call, and the user's three demands of it: `Grading` defines what it gives; each demand is a statement of it, and a theorem under the same name in `proofs/`; `Unnamed` says what has no effect; `NotHeld` what
 -- document 02's rule for unnamed locks changed; `Runs` what the grades say of every run; `Coincide` that nothing else is permitted.
 pub mod Grading
 pub mod Demand1
@@ -10,5 +10,5 @@ pub mod Runs
 pub mod Coincide
 -- What a method's root is graded, of a text.
 pub mod RootRead
--- What the code's private functions come to, and the laws behind it all.
+-- What the code's private functions come to. The laws behind it all are in `proofs/Laws`.
 pub mod Code

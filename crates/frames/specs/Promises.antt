@@ -25,7 +25,7 @@ use Rattle.frames.specs.declared.Outcome.{Outcome}
 use Rattle.frames.specs.declared.Fault.{Fault}
 use Rattle.frames.specs.declared.Fault.TheVariants.{Sound, Malformed, Misplaced, OutOfRange, Unlinked}
 use Rattle.counting.specs.Laws.Tests.{lt-or-le}
-use Rattle.counting.specs.Laws.Lists.{get_d_tabulate}
+use Rattle.counting.specs.Laws.Lists.{get_or-tabulate}
 use Rattle.frames.specs.Laws.FirstFault.{lowest, Stops, stops, exactly, exactly-read}
 
 -- ---- the fault and the lines before it, from an outcome
@@ -158,7 +158,7 @@ table-frames ls ok = fun_ext (λ j. fun_ext (λ b. at j b (lt-or-le j (length ls
         let c : p / layout.stride ≡ j = omega arith in
         let d : p % layout.stride ≡ b = omega arith in
         cell_in (table_of g) j b h l
-        ∙ (get_d_tabulate tables_length (λ p. g (p / layout.stride) (p % layout.stride)) p 0 (omega arith) ∙ (ap (λ (k : ℕ). g k (p % layout.stride)) c ∙ ap (g j) d))
+        ∙ (get_or-tabulate tables_length (λ p. g (p / layout.stride) (p % layout.stride)) p 0 (omega arith) ∙ (ap (λ (k : ℕ). g k (p % layout.stride)) c ∙ ap (g j) d))
 
     at : (j b : ℕ) → (j < length ls) ⊎ (length ls ≤ j) → (b < layout.stride) ⊎ (layout.stride ≤ b) → cell (table_of g) j b ≡ g j b
     at j b (inl h) (inl l) = held j b (omega (arith, few)) l

@@ -1,5 +1,5 @@
 -- Document 01's "Grades and their arithmetic", and the part of "What each node means" that looks at no node.
--- `Grades`, `Access` and `HeldSets` define; `Cases` has the paper's proved cases; `Laws` says what follows.
+-- `Grades`, `Access` and `HeldSets` define; `Cases` has the paper's proved cases; `proofs/Laws` says what follows.
 pub mod Grades
 pub mod Access
 pub mod HeldSets

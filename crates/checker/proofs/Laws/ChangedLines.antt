@@ -16,7 +16,7 @@ use Rattle.frames.specs.Laws.Program.{method-is, methods-length}
 use Rattle.frames.specs.Laws.Agree.{agree-fields, agree-methods, agree-method, agree-before}
 use Rattle.meaning.specs.Lowest.{method_count, is_declared}
 use Rattle.meaning.specs.Unnamed.{Aside, ChangedAside}
-use Rattle.counting.specs.Laws.Lists.{length-tabulate, get_d_tabulate, get_or-past-tabulate}
+use Rattle.counting.specs.Laws.Lists.{length-tabulate, get_or-tabulate, get_or-past-tabulate}
 
 tabulate-same : {A : Type 0} (n : ℕ) (u v : ℕ → A) → ((i : ℕ) → i < n → u i ≡ v i) → tabulate n u ≡ tabulate n v
 unfolding tabulate
@@ -70,10 +70,10 @@ module _ (f g : Frames)
       where
         go : Dec (n < node_count f m) → get_or (method_of g m).nodes n plain_node ≡ get_or (method_of f m).nodes n plain_node
         go (yes l) =
-            get_d_tabulate (node_count g m) (λ i. node_of (g (first_frame g m + i))) n plain_node (omega (arith, same_count m h))
+            get_or-tabulate (node_count g m) (λ i. node_of (g (first_frame g m + i))) n plain_node (omega (arith, same_count m h))
             ∙ ap (λ (j : ℕ). node_of (g (j + n))) (same_first m h)
             ∙ ap node_of (nodes m n h l keeps)
-            ∙ sym (get_d_tabulate (node_count f m) (λ i. node_of (f (first_frame f m + i))) n plain_node l)
+            ∙ sym (get_or-tabulate (node_count f m) (λ i. node_of (f (first_frame f m + i))) n plain_node l)
         go (no l) =
             get_or-past-tabulate (node_count g m) (λ i. node_of (g (first_frame g m + i))) n plain_node (omega (arith, same_count m h))
             ∙ sym (get_or-past-tabulate (node_count f m) (λ i. node_of (f (first_frame f m + i))) n plain_node (omega arith))

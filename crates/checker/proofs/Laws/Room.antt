@@ -24,7 +24,7 @@ use Rattle.solver.specs.Code.Engine.{first_node_frame, last_frame}
 use Rattle.solver.specs.Laws.Flat.{first_more}
 use Rattle.solver.specs.Room.{names_fit, lock_fits, locks_fit, has_room}
 use Rattle.counting.specs.Counting.{total}
-use Rattle.counting.specs.Laws.Lists.{get_d_tabulate}
+use Rattle.counting.specs.Laws.Lists.{get_or-tabulate}
 
 -- a frame among the nodes of the first M methods is some method's node
 record Stands (t : List ℕ) (M j : ℕ) : Type 0 where
@@ -72,7 +72,7 @@ module _ (t : List ℕ) (w : WellFormed (program_of (cell t))) where
   unfolding node_at
   own-node m n h l =
       ap (λ (x : Method). node_at x n) (own-method m h)
-      ∙ get_d_tabulate (node_count (cell t) m) (λ i. node_of (cell t (first_frame (cell t) m + i))) n plain_node l
+      ∙ get_or-tabulate (node_count (cell t) m) (λ i. node_of (cell t (first_frame (cell t) m + i))) n plain_node l
 
   -- a synchronised node's lock is one of its method's names, of which there are at most four
   lock-small : (m n : ℕ) → m < methods_in (cell t) → n < node_count (cell t) m → (node_in t (first_frame (cell t) m + n)).op ≡ 6

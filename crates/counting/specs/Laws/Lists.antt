@@ -10,11 +10,11 @@ unfolding tabulate
 length-tabulate zero f = refl
 length-tabulate (suc n) f = ap suc (length-tabulate n (λ i. f (suc i)))
 
-pub get_d_tabulate {ℓ} : {A : Type ℓ} (n : ℕ) (f : ℕ → A) (i : ℕ) (d : A) → i < n → get_or (tabulate n f) i d ≡ f i
+pub get_or-tabulate {ℓ} : {A : Type ℓ} (n : ℕ) (f : ℕ → A) (i : ℕ) (d : A) → i < n → get_or (tabulate n f) i d ≡ f i
 unfolding tabulate
-get_d_tabulate zero f i d h = absurd (not-suc-le-zero h)
-get_d_tabulate (suc n) f zero d h = refl
-get_d_tabulate (suc n) f (suc i) d h = get_d_tabulate n (λ i. f (suc i)) i d (le_of_suc-le-suc h)
+get_or-tabulate zero f i d h = absurd (not-suc-le-zero h)
+get_or-tabulate (suc n) f zero d h = refl
+get_or-tabulate (suc n) f (suc i) d h = get_or-tabulate n (λ i. f (suc i)) i d (le_of_suc-le-suc h)
 
 pub get_or-past-tabulate {ℓ} : {A : Type ℓ} (n : ℕ) (f : ℕ → A) (i : ℕ) (d : A) → n ≤ i → get_or (tabulate n f) i d ≡ d
 get_or-past-tabulate n f i d h = get_or-eq_default (tabulate n f) d (rw (length-tabulate n f) h)

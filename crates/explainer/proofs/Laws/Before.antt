@@ -12,7 +12,7 @@ use lib.Dec.{T, leb, ltb, eqb, eqb→eq}
 use Rattle.std.proofs.Math.Seq.{ext_get_or}
 use Rattle.counting.specs.Counting.{first, every}
 use Rattle.counting.specs.Laws.Counting.{first-bound, first_passes, first-least, first-unique, every-at}
-use Rattle.counting.specs.Laws.Lists.{length-tabulate, get_d_tabulate}
+use Rattle.counting.specs.Laws.Lists.{length-tabulate, get_or-tabulate}
 use Rattle.frames.specs.Layout.{layout, answer_length}
 use Rattle.frames.specs.Frames.{methods_in}
 use Rattle.frames.specs.Tables.{cell}
@@ -89,7 +89,7 @@ reached x h = eqb→eq _ x (every-at 5 (λ i. eqb (cond (leb 1 i) 1 0 + cond (le
 
 pub tables-at : (noted : List ℕ) (round e : ℕ) → e < answer_length → get_or (tables_at noted round) e 0 ≡ risen_count noted e round
 unfolding tables_at
-tables-at noted round e h = get_d_tabulate answer_length _ e 0 h
+tables-at noted round e h = get_or-tabulate answer_length _ e 0 h
 
 pub tables-length : (noted : List ℕ) (round : ℕ) → length (tables_at noted round) ≡ answer_length
 unfolding tables_at
@@ -156,7 +156,7 @@ module _ (t : List ℕ) (read : Read t) where
         tables-at (rises (program_in t)) round e inside
         ∙ ap (λ (i : ℕ). risen_count (rises (program_in t)) i round) (sym whole)
         ∙ entry_known (e / layout.grades) (e % layout.grades) (omega arith) (omega arith)
-        ∙ sym (get_d_tabulate answer_length _ e 0 inside))
+        ∙ sym (get_or-tabulate answer_length _ e 0 inside))
 
     -- all tables before a round
     pub tables-known : tables_in (tables_at (rises (program_in t)) round) ≡ tables_before (program_in t) round

@@ -35,9 +35,9 @@ get_or-among (x ∷ xs) zero d h = inl refl
 get_or-among (x ∷ xs) (suc i) d h = inr (get_or-among xs i d (omega arith))
 
 -- the first of some numbers, whatever would stand for it
-get_d_any : (xs : List ℕ) → 0 < length xs → get_or xs 0 0 ≡ get_or xs 0 no_name
-get_d_any [] h = absurd (omega arith)
-get_d_any (x ∷ xs) h = refl
+get_or-any : (xs : List ℕ) → 0 < length xs → get_or xs 0 0 ≡ get_or xs 0 no_name
+get_or-any [] h = absurd (omega arith)
+get_or-any (x ∷ xs) h = refl
 
 module _ (t : List ℕ) (read : Read t) (m first : ℕ) (at : At t m first) where
   pub method_known : m < method_count (program_in t)
@@ -82,7 +82,7 @@ module _ (t : List ℕ) (read : Read t) (m first : ℕ) (at : At t m first) wher
     unfolding first_name method_count
     lock-known six =
         let node = read.well_formed.nodes m n method_known within in
-        subst (λ (x : ℕ). x < (method_at (program_in t) m).k) (get_d_any (node_at (method_at (program_in t) m) n).names (omega (arith, node.names))) (node.synchronised six)
+        subst (λ (x : ℕ). x < (method_at (program_in t) m).k) (get_or-any (node_at (method_at (program_in t) m) n).names (omega (arith, node.names))) (node.synchronised six)
 
     -- the set that the children are graded under
     under-known : (H : ℕ) → mask_set (node_at (method_at (program_in t) m) n).op (first_name (node_at (method_at (program_in t) m) n).names) H

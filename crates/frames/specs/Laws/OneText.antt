@@ -30,7 +30,7 @@ use Rattle.lines.specs.declared.Place.{Place}
 use Rattle.frames.specs.declared.Tables.{Tables}
 use Rattle.counting.specs.Counting.{zeros, tabulate}
 use Rattle.frames.specs.Laws.Stored.{stored-length}
-use Rattle.counting.specs.Laws.Lists.{length-zeros, get_or-zeros, length-tabulate, get_d_tabulate}
+use Rattle.counting.specs.Laws.Lists.{length-zeros, get_or-zeros, length-tabulate, get_or-tabulate}
 use Rattle.lines.specs.Places.{past_line}
 use Rattle.frames.specs.declared.Outcome.TheVariants as Outcome
 
@@ -129,7 +129,7 @@ module _ {text : List ℕ} {ls : List (List ℕ)} {t N : List ℕ} {at line i : 
       let e : p ≡ p / layout.stride * layout.stride + p % layout.stride = omega arith in
       ap (λ (k : ℕ). get_or t k 0) e
       ∙ (sym (cell_in t (p / layout.stride) (p % layout.stride) a b)
-      ∙ (go.holds (p / layout.stride) (p % layout.stride) ∙ sym (get_d_tabulate tables_length (λ p. first_frames i (frames_of ls) (p / layout.stride) (p % layout.stride)) p 0 l))))
+      ∙ (go.holds (p / layout.stride) (p % layout.stride) ∙ sym (get_or-tabulate tables_length (λ p. first_frames i (frames_of ls) (p / layout.stride) (p % layout.stride)) p 0 l))))
 
 -- tables with nothing in them
 cell-zeros : (n j b : ℕ) → cell (zeros n) j b ≡ 0

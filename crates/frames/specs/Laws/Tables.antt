@@ -3,7 +3,7 @@
 use Rattle.std.specs.Prelude.{ℕ, zero, suc, ◌+◌, ◌*◌, ◌^◌, ◌≤◌, ◌<◌, min, ◌≡◌, refl, Bool, true, false, cond, ◌&&◌, List, ◌⊎◌, ltb, length, get_or}
 use Rattle.std.proofs.Common.{ap, ◌∙◌, ⊎_elim, arith, zero-add, suc-add, add-zero, add-one, lt-ltb, le-ltb}
 use Rattle.std.proofs.Math.ListN.{get_or-eq_default}
-use Rattle.counting.specs.Laws.Lists.{get_or-past-tabulate, get_d_tabulate, length-tabulate}
+use Rattle.counting.specs.Laws.Lists.{get_or-past-tabulate, get_or-tabulate, length-tabulate}
 use Rattle.counting.specs.Laws.Tests.{lt-or-le}
 use Rattle.frames.specs.Layout.{layout}
 use Rattle.frames.specs.Frames.{Frames, method_frame}
@@ -53,7 +53,7 @@ nodes-before-past t (suc n) =
 -- an entry of a method's table, which has one for each held set
 pub table-entry : (f : Frames) (m h : ℕ) → h < min (2 ^ method_frame f m layout.k_at) layout.grades → get_or (method_of f m).table h 0 ≡ method_frame f m (5 + h)
 unfolding grade_of
-table-entry f m h l = get_d_tabulate _ _ h 0 (omega arith) ∙ simp (lt-ltb h layout.grades (omega arith))
+table-entry f m h l = get_or-tabulate _ _ h 0 (omega arith) ∙ simp (lt-ltb h layout.grades (omega arith))
 
 pub table-past : (f : Frames) (m h : ℕ) → min (2 ^ method_frame f m layout.k_at) layout.grades ≤ h → get_or (method_of f m).table h 0 ≡ 0
 unfolding grade_of
@@ -61,5 +61,5 @@ table-past f m h l = go (lt-or-le h (2 ^ method_frame f m layout.k_at))
   where
     go : (h < 2 ^ method_frame f m layout.k_at) ⊎ (2 ^ method_frame f m layout.k_at ≤ h) → get_or (method_of f m).table h 0 ≡ 0
     go = ⊎_elim
-        (λ (i : h < 2 ^ method_frame f m layout.k_at). get_d_tabulate _ _ h 0 i ∙ simp (le-ltb h layout.grades (omega arith)))
+        (λ (i : h < 2 ^ method_frame f m layout.k_at). get_or-tabulate _ _ h 0 i ∙ simp (le-ltb h layout.grades (omega arith)))
         (λ (o : 2 ^ method_frame f m layout.k_at ≤ h). get_or-past-tabulate _ _ h 0 o)

@@ -26,7 +26,7 @@ use Rattle.frames.specs.FirstFault.{Faultless}
 use Rattle.frames.specs.WellFormed.{children_in, named_in, Once, Name, FieldFits, MethodFits, NodeFits, WellFormed}
 use Rattle.counting.specs.Counting.{total, tabulate, every, member}
 use Rattle.counting.specs.Laws.Tests.{and_left, and_right, lt-or-le}
-use Rattle.counting.specs.Laws.Lists.{length-tabulate, get_d_tabulate, get_or-past-tabulate}
+use Rattle.counting.specs.Laws.Lists.{length-tabulate, get_or-tabulate, get_or-past-tabulate}
 use Rattle.frames.specs.declared.Due.TheVariants as Due
 
 -- what all of a range passes, each passes
@@ -68,7 +68,7 @@ table-small : (r : Frame) → every layout.grades (grade_in_range r) ≡ true �
 unfolding grade_of
 table-small r e n h =
     ⊎_elim
-    (λ (l : h < n). rw (get_d_tabulate n (grade_of r) h 0 l)
+    (λ (l : h < n). rw (get_or-tabulate n (grade_of r) h 0 l)
     (⊎_elim
     (λ (k : h < layout.grades). rw (lt-ltb h layout.grades k) (grade-small r h (every-at layout.grades (grade_in_range r) e h k)))
     (λ (g : layout.grades ≤ h). rw (le-ltb h layout.grades g) zero-le)
@@ -80,7 +80,7 @@ table_none : (r : Frame) → every layout.grades (grade_in_range r) ≡ true →
 unfolding grade_of
 table_none r e d n h =
     ⊎_elim
-    (λ (l : h < n). rw (get_d_tabulate n (grade_of r) h 0 l)
+    (λ (l : h < n). rw (get_or-tabulate n (grade_of r) h 0 l)
     (⊎_elim
     (λ (k : h < layout.grades). rw (lt-ltb h layout.grades k) (grade-none r h (every-at layout.grades (grade_in_range r) e h k) d))
     (λ (g : layout.grades ≤ h). rw (le-ltb h layout.grades g))

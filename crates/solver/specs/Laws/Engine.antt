@@ -137,26 +137,26 @@ unfolding children_listed
 children_listed-past op h = get_or-eq_default (0 ∷ 1 ∷ 2 ∷ 2 ∷ 3 ∷ 2 ∷ 1 ∷ 1 ∷ 1 ∷ 1 ∷ []) 0 h
 
 -- child i, of three, if the op lists so many
-abbrev pub lists_at : (X Y Z i op : ℕ) → Type 0
-lists_at X Y Z i op =
+abbrev pub ListsAt : (X Y Z i op : ℕ) → Type 0
+ListsAt X Y Z i op =
     get_or (listed (op_of op) X Y Z) i no_child ≡ cond (ltb i (children_listed op)) (get_or (X ∷ Y ∷ Z ∷ []) i no_child) no_child
 
-lists-past : (X Y Z i op : ℕ) → 10 ≤ op → lists_at X Y Z i op
+lists-past : (X Y Z i op : ℕ) → 10 ≤ op → ListsAt X Y Z i op
 lists-past X Y Z i op h =
     ap (λ (o : Op). get_or (listed o X Y Z) i no_child) (op-past op h)
     ∙ ap (λ (b : Bool). cond b (get_or (X ∷ Y ∷ Z ∷ []) i no_child) no_child) (sym (ap (ltb i) (children_listed-past op h) ∙ leb-suc-zero i))
 
-pub lists-first : (X Y Z op : ℕ) → lists_at X Y Z 0 op
+pub lists-first : (X Y Z op : ℕ) → ListsAt X Y Z 0 op
 unfolding op_of children_listed
-lists-first X Y Z = op-cases (lists_at X Y Z 0) refl refl refl refl refl refl refl refl refl refl (lists-past X Y Z 0)
+lists-first X Y Z = op-cases (ListsAt X Y Z 0) refl refl refl refl refl refl refl refl refl refl (lists-past X Y Z 0)
 
-pub lists-second : (X Y Z op : ℕ) → lists_at X Y Z 1 op
+pub lists-second : (X Y Z op : ℕ) → ListsAt X Y Z 1 op
 unfolding op_of children_listed
-lists-second X Y Z = op-cases (lists_at X Y Z 1) refl refl refl refl refl refl refl refl refl refl (lists-past X Y Z 1)
+lists-second X Y Z = op-cases (ListsAt X Y Z 1) refl refl refl refl refl refl refl refl refl refl (lists-past X Y Z 1)
 
-pub lists-third : (X Y Z op : ℕ) → lists_at X Y Z 2 op
+pub lists-third : (X Y Z op : ℕ) → ListsAt X Y Z 2 op
 unfolding op_of children_listed
-lists-third X Y Z = op-cases (lists_at X Y Z 2) refl refl refl refl refl refl refl refl refl refl (lists-past X Y Z 2)
+lists-third X Y Z = op-cases (ListsAt X Y Z 2) refl refl refl refl refl refl refl refl refl refl (lists-past X Y Z 2)
 
 pub child-first : (node : Node) → child_at node 0 ≡ cond (ltb 0 (children_listed node.op)) node.X no_child
 unfolding child_at children

@@ -24,7 +24,7 @@ use Rattle.meaning.proofs.Laws.Meaning.{root-error}
 use Rattle.solver.specs.Code.Engine.{nodes_from, last_frame}
 use Rattle.solver.specs.Laws.Views.{method-in, method-count}
 use Rattle.solver.specs.Flat.{program_in, blank, flat, tables_in}
-use Rattle.counting.specs.Laws.Lists.{length-tabulate, get_d_tabulate}
+use Rattle.counting.specs.Laws.Lists.{length-tabulate, get_or-tabulate}
 use Rattle.solver.specs.Code.Rounds.{Fits, Starts, Done, is_fixed, start_tables, round_tables}
 
 -- ---- a method's root, among the nodes from its first frame on
@@ -48,7 +48,7 @@ module _ (t : List ℕ) (a : Assignment) (m : ℕ) (within : m < methods_in (cel
   unfolding node_at
   body-node i h =
       sym (ap (λ (x : Method). get_or x.nodes i plain_node) (method-in t m within)
-      ∙ get_d_tabulate (node_count (cell t) m) (λ n. node_of (cell t (first_frame (cell t) m + n))) i plain_node h)
+      ∙ get_or-tabulate (node_count (cell t) m) (λ n. node_of (cell t (first_frame (cell t) m + n))) i plain_node h)
 
   root-number : root_of (method_at (program_in t) m) ≡ pred (node_count (cell t) m)
   unfolding root_of
@@ -124,7 +124,7 @@ flat-length a = length-tabulate answer_length (λ i. a (i / layout.grades) (i % 
 
 pub flat-at : (a : Assignment) (i : ℕ) → i < answer_length → get_or (flat a) i 0 ≡ a (i / layout.grades) (i % layout.grades)
 unfolding flat
-flat-at a i h = get_d_tabulate answer_length (λ j. a (j / layout.grades) (j % layout.grades)) i 0 h
+flat-at a i h = get_or-tabulate answer_length (λ j. a (j / layout.grades) (j % layout.grades)) i 0 h
 
 pub flat-entry : (a : Assignment) (m h : ℕ) → m < layout.most_methods → h < layout.grades → get_or (flat a) (layout.grades * m + h) 0 ≡ a m h
 flat-entry a m h l k = flat-at a (layout.grades * m + h) (omega arith) ∙ ap₂ a (place-method m h k) (place_set m h k)

@@ -11,7 +11,7 @@ use Rattle.std.proofs.Math.ListN.{get_or-eq_default}
 use Rattle.std.proofs.lemmas.List.{length-replicate, get_or-replicate}
 use Rattle.counting.specs.Counting.{first}
 use Rattle.counting.specs.Laws.Counting.{first-none, first_more}
-use Rattle.counting.specs.Laws.Lists.{length-tabulate, get_d_tabulate}
+use Rattle.counting.specs.Laws.Lists.{length-tabulate, get_or-tabulate}
 use Rattle.frames.specs.Layout.{layout, answer_length}
 use Rattle.frames.specs.Frames.{methods_in}
 use Rattle.frames.specs.Tables.{cell}
@@ -99,7 +99,7 @@ rises-length t n = length-tabulate rises_length _
 pub rises-at : (t : List ℕ) (n i : ℕ) → i < rises_length
     → get_or (rises_after (program_in t) n) i 0 ≡ rise_by (entry_after (program_in t) (i / layout.most_grade)) n (suc (i % layout.most_grade))
 unfolding rises_after
-rises-at t n i h = get_d_tabulate rises_length _ i 0 h
+rises-at t n i h = get_or-tabulate rises_length _ i 0 h
 
 module _ (t : List ℕ) (fits : Fits t) where
   -- past the entries of all methods there is nothing

@@ -17,13 +17,13 @@ use Rattle.meaning.proofs.Laws.Calls.{over_none, over-unnamed, over-named}
 use Rattle.meaning.specs.Lowest.{method_count}
 use Rattle.solver.specs.Code.Engine.{entries_from}
 use Rattle.counting.specs.Counting.{tabulate}
-use Rattle.counting.specs.Laws.Lists.{length-tabulate, get_d_tabulate, get_or-past-tabulate}
+use Rattle.counting.specs.Laws.Lists.{length-tabulate, get_or-tabulate, get_or-past-tabulate}
 use Rattle.solver.specs.Flat.{program_in}
 
 module _ (t : List ℕ) where
   pub field_in : (u : ℕ) → u < fields_in (cell t) → field_at (program_in t) u ≡ field_of (field_frame (cell t) u)
   unfolding field_at program_of
-  field_in u h = get_d_tabulate (fields_in (cell t)) (λ i. field_of (field_frame (cell t) i)) u no_field h
+  field_in u h = get_or-tabulate (fields_in (cell t)) (λ i. field_of (field_frame (cell t) i)) u no_field h
 
   pub field_past : (u : ℕ) → fields_in (cell t) ≤ u → field_at (program_in t) u ≡ no_field
   unfolding field_at program_of
@@ -31,7 +31,7 @@ module _ (t : List ℕ) where
 
   pub method-in : (m : ℕ) → m < methods_in (cell t) → method_at (program_in t) m ≡ method_of (cell t) m
   unfolding method_at program_of
-  method-in m h = get_d_tabulate (methods_in (cell t)) (method_of (cell t)) m no_method h
+  method-in m h = get_or-tabulate (methods_in (cell t)) (method_of (cell t)) m no_method h
 
   pub method-past : (m : ℕ) → methods_in (cell t) ≤ m → method_at (program_in t) m ≡ no_method
   unfolding method_at program_of
