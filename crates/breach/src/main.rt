@@ -5,13 +5,12 @@
 use std::io;
 
 // Where a read fails the text is not known, and nothing is printed.
+//
+// One function for this program and `grade` would take what prints as a closure and ask that it may be called, and no public function asks anything.
 fn main(rt: HostRuntime) -> io::Result<()> {
     let mut text = [0u8; session::TEXT_ROOM];
-    let input = streams::read_all(&mut rt.stdin(), &mut text);
-    if let Some(error) = input.failed {
-        return Err(error);
-    }
+    let length = streams::read_all(&mut rt.stdin(), &mut text)?;
     let mut page = [0u8; session::BREACH_LENGTH];
-    let count = session::breach(&text[..input.count], &mut page);
+    let count = session::breach(&text[..length], &mut page);
     streams::print(&mut rt.stdout(), &page, count)
 }

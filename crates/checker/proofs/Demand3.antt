@@ -12,10 +12,9 @@ use Rattle.meaning.specs.Changes.{StruckOut, WrittenBack}
 use Rattle.meaning.proofs.Demand3.{demand-3}
 use Rattle.solver.specs.Flat.{flat}
 use Rattle.solver.specs.Laws.Flat.{flat-length, flat-at, flat-entry}
-use Rattle.checker.specs.Grading.{program_read, by_answer, bytes_by_answer, answer_of}
+use Rattle.checker.specs.Grading.{program_read, accepted_with, broken_at, by_answer, bytes_by_answer, answer_of}
 use Rattle.checker.specs.Demand1.{Gradable}
 use Rattle.checker.proofs.Demand2.{says, bytes}
-use Rattle.checker.specs.declared.Verdict.TheVariants.{Accepted, Broken}
 use Rattle.checker.specs.Demand3.{Passes, FallingBytes, NoWorseBytes, SameBytes, Demand3}
 
 -- an accepted text's answer
@@ -31,7 +30,7 @@ found text old p = go (answer (program_read text)) refl
     go : (x : Answer) → answer (program_read text) ≡ x → Found text old
     go (accepted r t) q = record { rounds = r; tables = t; is = q; holds = bytes text old p.sound ∙ ap (λ (y : Answer). bytes_by_answer y old) q }
     go (refused a b c d) q =
-        let both : Broken a b c d ≡ Accepted p.methods p.rounds
+        let both : broken_at a b c d ≡ accepted_with p.methods p.rounds
         = ap (λ (y : Answer). by_answer y (method_count (program_read text))) (sym q) ∙ sym (says text (length old) p.sound) ∙ p.accepts in
         let z : ◌≡◌ {A = ℕ} 0 1 = cc in absurd (omega arith)
 

@@ -2,8 +2,7 @@
 -- Assumes nothing.
 use Rattle.std.specs.Prelude.{List, ◌≡◌, ℕ, length}
 use Rattle.std.proofs.Common.{sym, ◌∙◌}
-use Rattle.checker.specs.Grading.{verdict_of, answer_of}
-use Rattle.checker.specs.declared.Verdict.{Verdict}
+use Rattle.checker.specs.Grading.{Verdict, verdict_of, answer_of}
 
 -- an outcome that meets the contract of `grade`
 pub record Permits (text old : List ℕ) (verdict : Verdict) (new : List ℕ) : Type 0 where

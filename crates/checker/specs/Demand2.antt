@@ -8,8 +8,7 @@ use Rattle.meaning.specs.Meaning.{Assignment}
 use Rattle.meaning.specs.Lowest.{method_count}
 use Rattle.meaning.specs.Constraints.{Satisfies}
 use Rattle.meaning.specs.Demand2.{IsRounds, LowestOfAll, Named}
-use Rattle.checker.specs.Grading.{program_read, verdict_of, answer_of}
-use Rattle.checker.specs.declared.Verdict.TheVariants.{Accepted, Broken}
+use Rattle.checker.specs.Grading.{program_read, accepted_with, broken_at, verdict_of, answer_of}
 
 -- the text is accepted: the answer holds the lowest of all assignments that satisfy every constraint, and the rounds are those that
 -- reached it
@@ -25,9 +24,9 @@ pub record BrokenBy (text : List ℕ) : Type 0 where
   pub kind : ℕ
   pub node : ℕ
   pub set : ℕ
-  pub says : verdict_of text answer_length ≡ Broken method kind node set
+  pub says : verdict_of text answer_length ≡ broken_at method kind node set
 
 pub record Demand2 (text old : List ℕ) : Type 0 where
-  pub accepted : (methods rounds : ℕ) → verdict_of text (length old) ≡ Accepted methods rounds → AcceptedAnswer text old methods rounds
+  pub accepted : (methods rounds : ℕ) → verdict_of text (length old) ≡ accepted_with methods rounds → AcceptedAnswer text old methods rounds
   pub refused : BrokenBy text ↔ ((a : Assignment) → Satisfies (program_read text) a → ⊥)
-  pub named : (method kind node set : ℕ) → verdict_of text (length old) ≡ Broken method kind node set → Named (program_read text) method kind node set
+  pub named : (method kind node set : ℕ) → verdict_of text (length old) ≡ broken_at method kind node set → Named (program_read text) method kind node set

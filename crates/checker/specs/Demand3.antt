@@ -9,16 +9,15 @@ use Rattle.grades.specs.HeldSets.{Within}
 use Rattle.meaning.specs.Lowest.{entry_count}
 use Rattle.meaning.specs.Constraints.{accepted, answer, entry_of}
 use Rattle.meaning.specs.Changes.{StruckOut, WrittenBack, DeclaredAntitone}
-use Rattle.checker.specs.Grading.{program_read, verdict_of, answer_of}
+use Rattle.checker.specs.Grading.{program_read, accepted_with, verdict_of, answer_of}
 use Rattle.checker.specs.Demand1.{Gradable}
-use Rattle.checker.specs.declared.Verdict.TheVariants.{Accepted}
 
 -- the call accepts a sound text, with an answer of the right length lent
 pub record Passes (text old : List ℕ) : Type 0 where
   pub sound : Gradable text (length old)
   pub methods : ℕ
   pub rounds : ℕ
-  pub accepts : verdict_of text (length old) ≡ Accepted methods rounds
+  pub accepts : verdict_of text (length old) ≡ accepted_with methods rounds
 
 -- (a)
 abbrev pub FallingBytes : (text old : List ℕ) → Type 0

@@ -7,9 +7,8 @@ use Rattle.meaning.specs.Lowest.{method_count}
 use Rattle.meaning.specs.Constraints.{Answer, answer}
 use Rattle.meaning.specs.Changes.{DeclaredAntitone}
 use Rattle.meaning.specs.NotHeld.{as_not_held, RulesCompared}
-use Rattle.checker.specs.Grading.{program_read, by_answer, verdict_of, bytes_by_answer, answer_of}
+use Rattle.checker.specs.Grading.{program_read, accepted_with, by_answer, verdict_of, bytes_by_answer, answer_of}
 use Rattle.checker.specs.Demand3.{Passes}
-use Rattle.checker.specs.declared.Verdict.TheVariants.{Accepted}
 
 -- a name that nothing holds in any text: it is past every method's names, and not FF
 abbrev pub unheld : ℕ
@@ -22,7 +21,7 @@ answer01 text = answer (as_not_held unheld (program_read text))
 -- 01 accepts, with bytes that are nowhere larger than those that the call leaves
 pub record NoLargerBy01 (text old : List ℕ) : Type 0 where
   pub rounds : ℕ
-  pub accepts : by_answer (answer01 text) (method_count (program_read text)) ≡ Accepted (method_count (program_read text)) rounds
+  pub accepts : by_answer (answer01 text) (method_count (program_read text)) ≡ accepted_with (method_count (program_read text)) rounds
   pub no_larger : (i : ℕ) → get_or (bytes_by_answer (answer01 text) old) i 0 ≤ get_or (answer_of text old) i 0
 
 pub record RulesOfTheCall (text old : List ℕ) : Type 0 where

@@ -12,9 +12,8 @@ use Rattle.frames.specs.Links.{node_count}
 use Rattle.frames.specs.Tables.{first_frame}
 use Rattle.meaning.specs.Lowest.{rounds, lowest}
 use Rattle.meaning.specs.Unnamed.{Aside}
-use Rattle.checker.specs.Grading.{program_read, verdict_of, answer_of}
+use Rattle.checker.specs.Grading.{program_read, broken_at, verdict_of, answer_of}
 use Rattle.checker.specs.Demand3.{Passes}
-use Rattle.checker.specs.declared.Verdict.TheVariants.{Broken}
 use Rattle.frames.specs.Program.{method_at, node_at}
 
 -- the second text has the first's lines, but for some of nodes that stand aside: unnamed ones but the root, and those in their trees
@@ -34,7 +33,7 @@ pub record ForkRefused (text text' old' : List ℕ) : Type 0 where
   pub method : ℕ
   pub node : ℕ
   pub set : ℕ
-  pub says : verdict_of text' (length old') ≡ Broken method 3 node set
+  pub says : verdict_of text' (length old') ≡ broken_at method 3 node set
   pub changed : node_at (method_at (program_read text') method) node ≡ node_at (method_at (program_read text) method) node → ⊥
 
 pub record NoEffect (text old text' old' : List ℕ) : Type 0 where

@@ -9,7 +9,6 @@ pub mod See
 pub mod Turns
 pub mod Walk
 pub mod Asked
-pub mod Bytes
-pub mod Chains
-pub mod Lists
+pub mod Known
+pub mod Lent
 pub mod Broken

@@ -14,18 +14,15 @@ use Rattle.frames.specs.Program.{Program, method_at, node_at}
 use Rattle.frames.specs.Ranges.{uses_method}
 use Rattle.frames.specs.WellFormed.{WellFormed}
 use Rattle.frames.specs.Promises.{read-exactly, read-well-formed}
-use Rattle.frames.specs.declared.Checked.{Checked}
 use Rattle.meaning.specs.Meaning.{op_of, root_table}
 use Rattle.meaning.specs.Lowest.{method_count, entry_count, is_entry, is_declared, declared_table, lowest}
 use Rattle.meaning.specs.Constraints.{Entry, Closed, declared_root, main_table, forked_table, method_of, kind_of, node_of, named_method, is_fork, fork_at, forks_of, closed_of, closed_of_all, closed, FirstBroken}
 use Rattle.meaning.proofs.Laws.Answers.{when-refused}
 use Rattle.meaning.proofs.Laws.Lowest.{is_entry-of}
-use Rattle.checker.specs.Grading.{program_read, verdict_of}
+use Rattle.checker.specs.Grading.{Verdict, program_read, verdict_of, broken_at}
 use Rattle.checker.proofs.Laws.Grading.{read-program}
 use Rattle.checker.specs.Demand1.{Case}
 use Rattle.checker.proofs.Demand1.{demand-1}
-use Rattle.checker.specs.declared.Verdict.{Verdict}
-use Rattle.checker.specs.declared.Verdict.TheVariants.{Broken}
 use Rattle.explainer.specs.Broken.{broken_by, broken_steps}
 use Rattle.solver.specs.Laws.Engine.{op-cases, op-past}
 use Rattle.explainer.proofs.Laws.Picks.{passed}
@@ -77,7 +74,7 @@ module _ (text : List ℕ) (w : WellFormed (program_read text)) (H : ℕ) where
   not-held-or false n t = absurd t
 
   reason-of : (c : Closed) → FirstBroken (program_read text) (lowest (program_read text)) (closed (program_read text)) c H
-      → verdict_of text answer_length ≡ Broken (method_of c) (kind_of c) (node_of c) H → RefusedReason text (method_of c) (kind_of c) (node_of c) H
+      → verdict_of text answer_length ≡ broken_at (method_of c) (kind_of c) (node_of c) H → RefusedReason text (method_of c) (kind_of c) (node_of c) H
   unfolding broken_steps
   reason-of (declared_root m) f e =
       let p = program_read text in
@@ -117,14 +114,14 @@ module _ (text : List ℕ) (w : WellFormed (program_read text)) (H : ℕ) where
       }
 
 -- of every text that is refused by 7
-pub refused-reason : (text : List ℕ) (m kind node H : ℕ) → verdict_of text answer_length ≡ Broken m kind node H → RefusedReason text m kind node H
+pub refused-reason : (text : List ℕ) (m kind node H : ℕ) → verdict_of text answer_length ≡ broken_at m kind node H → RefusedReason text m kind node H
 refused-reason text m kind node H e =
     let given = subst (λ (i : ℕ). Case text i (verdict_of text i)) (length-replicate {A = ℕ} answer_length 0) (demand-1 text (replicate answer_length 0)).given in
-    let broken : Case text answer_length (Broken m kind node H) = subst (Case text answer_length) e given in
+    let broken : Case text answer_length (broken_at m kind node H) = subst (Case text answer_length) e given in
     let r = when-refused (program_read text) m kind node H broken.1 in
-    let reads = ap (λ (c : Checked). c.outcome) (read-exactly text broken.0.short broken.0.lines) in
-    let named : Broken m kind node H ≡ Broken (method_of r.constraint) (kind_of r.constraint) (node_of r.constraint) H = λ i. Broken (sym r.method i) (sym r.kind i) (sym r.node i) H in
+    let reads = read-exactly text broken.0.short broken.0.lines in
+    let named : broken_at m kind node H ≡ broken_at (method_of r.constraint) (kind_of r.constraint) (node_of r.constraint) H = λ i. broken_at (sym r.method i) (sym r.kind i) (sym r.node i) H in
     subst (λ (x : ℕ). RefusedReason text m x node H) r.kind
     (subst (λ (x : ℕ). RefusedReason text x (kind_of r.constraint) node H) r.method
     (subst (λ (x : ℕ). RefusedReason text (method_of r.constraint) (kind_of r.constraint) x H) r.node
-    (reason-of text (subst WellFormed (read-program text reads) (read-well-formed text reads)) H r.constraint r.first (e ∙ named))))
+    (reason-of text (subst WellFormed (read-program text _ reads) (read-well-formed text _ reads)) H r.constraint r.first (e ∙ named))))

@@ -2,14 +2,14 @@
 -- declaration it is that of the body's grade over the lowest tables, else that of the entry's, which is in the lowest tables what it is. A text with any
 -- other outcome has none.
 -- Assumes nothing.
-use Rattle.std.specs.Prelude.{ℕ, ◌/◌, cond, List, [], map, eqb, leb, length}
+use Rattle.std.specs.Prelude.{ℕ, ◌/◌, cond, List, [], map, eqb, leb, length, Ok, Err}
 use Rattle.frames.specs.Layout.{answer_length}
 use Rattle.frames.specs.Program.{Program}
 use Rattle.meaning.specs.Lowest.{is_entry}
 use Rattle.meaning.specs.Constraints.{named_method}
 use Rattle.reasons.specs.Steps.{body_reason}
-use Rattle.checker.specs.Grading.{program_read, verdict_of}
-use Rattle.checker.specs.declared.Verdict.{Verdict}
+use Rattle.checker.specs.Grading.{Verdict, program_read, verdict_of}
+use Rattle.checker.specs.declared.Refusal.TheVariants as verdict
 use Rattle.explainer.specs.declared.walk.Step.{Step}
 use Rattle.explainer.specs.Explain.{step_of, steps_of, bytes_over}
 
@@ -22,14 +22,10 @@ unfoldable pub chain_about : Program → (m kind H : ℕ) → List Step
 chain_about p m kind H = cond (is_entry p m H) (cond (eqb kind 1) (map step_of (body_reason p m H)) (steps_of p m H)) []
 
 abbrev pub broken_by : Verdict → Program → List Step
-broken_by (Verdict.Accepted methods rounds) p = []
-broken_by Verdict.WrongLength p = []
-broken_by Verdict.Overlong p = []
-broken_by (Verdict.Malformed line) p = []
-broken_by (Verdict.Misplaced line) p = []
-broken_by (Verdict.OutOfRange line) p = []
-broken_by (Verdict.Unlinked line) p = []
-broken_by (Verdict.Broken method kind node set) p = chain_about p (about_method p method kind node) kind set
+broken_by (Ok accepted) p = []
+broken_by (Err verdict.WrongLength) p = []
+broken_by (Err (verdict.Text why)) p = []
+broken_by (Err (verdict.Broken b)) p = chain_about p (about_method p b.method b.kind b.node) b.kind b.set
 
 unfoldable pub broken_steps : List ℕ → List Step
 broken_steps text = broken_by (verdict_of text answer_length) (program_read text)

@@ -5,7 +5,7 @@ pub mod Callee
 pub mod Picks
 pub mod Places
 pub mod Walk
+pub mod Known
 pub mod Asked
-pub mod Chains
-pub mod Bytes
+pub mod Lent
 pub mod Broken

@@ -1,18 +1,24 @@
 -- What an explanation comes to, for every text, method, held set and lent list: document 02's W-207. "Refusals: after 2 to 7, 10 if the method or held
 -- set doesn't exist, then 11 if the list is too short, with the count needed; the list is then untouched."
 -- Assumes nothing.
-use Rattle.std.specs.Prelude.{ℕ, ◌*◌, ◌/◌, ◌%◌, cond, List, [], ◌∷◌, ◌++◌, map, leb, length, drop}
+use Rattle.std.specs.Prelude.{ℕ, ◌*◌, ◌/◌, ◌%◌, cond, List, [], ◌∷◌, ◌++◌, map, leb, length, drop, Result, Ok, Err}
 use Rattle.counting.specs.Counting.{together}
 use Rattle.frames.specs.Layout.{answer_length}
 use Rattle.frames.specs.Program.{Program}
+use Rattle.frames.specs.Refusals.{number_of, line_of}
+use Rattle.frames.specs.declared.Refusal.TheVariants.{Overlong}
 use Rattle.meaning.specs.Lowest.{is_entry}
 use Rattle.reasons.specs.Steps as steps
 use Rattle.reasons.specs.Steps.{reason}
-use Rattle.checker.specs.Grading.{program_read, verdict_of}
-use Rattle.checker.specs.declared.Verdict.{Verdict}
-use Rattle.explainer.specs.declared.asked.Reason.{Reason}
-use Rattle.explainer.specs.declared.asked.Reason.TheVariants.{Explained, Overlong, Malformed, Misplaced, OutOfRange, Unlinked, Broken, NoEntry, TooShort}
+use Rattle.checker.specs.Grading.{Verdict, program_read, verdict_of}
+use Rattle.checker.specs.declared.Refusal.TheVariants as verdict
+use Rattle.explainer.specs.declared.asked.Refusal.{Refusal}
+use Rattle.explainer.specs.declared.asked.Refusal.TheVariants.{Text, Broken, NoEntry, TooShort}
 use Rattle.explainer.specs.declared.walk.Step.{Step}
+
+-- what an explanation comes to: how many steps it has, or a refusal
+abbrev pub Reason : Type 0
+Reason = Result ℕ Refusal
 
 -- a step's record
 abbrev pub step_of : steps.Step → Step
@@ -28,34 +34,26 @@ unfoldable pub reason_by : Program → (m H room : ℕ) → Reason
 reason_by p m H room =
     cond
     (is_entry p m H)
-    (cond (leb (length (steps_of p m H)) room) (Explained (length (steps_of p m H))) (TooShort (length (steps_of p m H))))
-    NoEntry
+    (cond (leb (length (steps_of p m H)) room) (Ok (length (steps_of p m H))) (Err (TooShort (length (steps_of p m H)))))
+    (Err NoEntry)
 
 -- a text that is not accepted is refused as it is in grading; with an answer of the right length there is no refusal 1
 abbrev pub reason_by_verdict : Verdict → Program → (m H room : ℕ) → Reason
-reason_by_verdict (Verdict.Accepted methods rounds) p m H room = reason_by p m H room
-reason_by_verdict Verdict.WrongLength p m H room = Overlong
-reason_by_verdict Verdict.Overlong p m H room = Overlong
-reason_by_verdict (Verdict.Malformed line) p m H room = Malformed line
-reason_by_verdict (Verdict.Misplaced line) p m H room = Misplaced line
-reason_by_verdict (Verdict.OutOfRange line) p m H room = OutOfRange line
-reason_by_verdict (Verdict.Unlinked line) p m H room = Unlinked line
-reason_by_verdict (Verdict.Broken method kind node set) p m H room = Broken method kind node set
+reason_by_verdict (Ok accepted) p m H room = reason_by p m H room
+reason_by_verdict (Err verdict.WrongLength) p m H room = Err (Text Overlong)
+reason_by_verdict (Err (verdict.Text why)) p m H room = Err (Text why)
+reason_by_verdict (Err (verdict.Broken broken)) p m H room = Err (Broken broken)
 
 unfoldable pub reason_of : List ℕ → (m H room : ℕ) → Reason
 reason_of text m H room = reason_by_verdict (verdict_of text answer_length) (program_read text) m H room
 
 -- what is lent, as it is left: with the new front if the steps are explained; "the list is then untouched"
 abbrev pub left_by : {A : Type 0} → Reason → (new old : List A) → List A
-left_by (Explained count) new old = new
-left_by Overlong new old = old
-left_by (Malformed line) new old = old
-left_by (Misplaced line) new old = old
-left_by (OutOfRange line) new old = old
-left_by (Unlinked line) new old = old
-left_by (Broken method kind node set) new old = old
-left_by NoEntry new old = old
-left_by (TooShort count) new old = old
+left_by (Ok count) new old = new
+left_by (Err (Text why)) new old = old
+left_by (Err (Broken broken)) new old = old
+left_by (Err NoEntry) new old = old
+left_by (Err (TooShort count)) new old = old
 
 -- the steps at the front of a list, and the rest as it was
 abbrev pub steps_over : (steps old : List Step) → List Step
@@ -96,12 +94,8 @@ abbrev pub line_refused : (number line : ℕ) → Numbers
 line_refused number line = record { number = number; line = line; method = 0; kind = 0; node = 0; set = 0; count = 0 }
 
 abbrev pub numbers_of : Reason → Numbers
-numbers_of (Explained count) = record { number = 0; line = 0; method = 0; kind = 0; node = 0; set = 0; count = count }
-numbers_of Overlong = line_refused 2 0
-numbers_of (Malformed line) = line_refused 3 line
-numbers_of (Misplaced line) = line_refused 4 line
-numbers_of (OutOfRange line) = line_refused 5 line
-numbers_of (Unlinked line) = line_refused 6 line
-numbers_of (Broken method kind node set) = record { number = 7; line = 0; method = method; kind = kind; node = node; set = set; count = 0 }
-numbers_of NoEntry = line_refused 10 0
-numbers_of (TooShort count) = record { number = 11; line = 0; method = 0; kind = 0; node = 0; set = 0; count = count }
+numbers_of (Ok count) = record { number = 0; line = 0; method = 0; kind = 0; node = 0; set = 0; count = count }
+numbers_of (Err (Text why)) = line_refused (number_of why) (line_of why)
+numbers_of (Err (Broken b)) = record { number = 7; line = 0; method = b.method; kind = b.kind; node = b.node; set = b.set; count = 0 }
+numbers_of (Err NoEntry) = line_refused 10 0
+numbers_of (Err (TooShort count)) = record { number = 11; line = 0; method = 0; kind = 0; node = 0; set = 0; count = count }

@@ -13,7 +13,7 @@ use frames::layout::{ANSWER_LENGTH, GRADES, MOST_GRADE};
 fn risen_before(rise: u16, round: usize) -> u8
     ensures { (result ≡ cond (ltb rise round) 1 0) × (result ≤ 1) }
 {
-    if (rise as usize) < round { 1 } else { 0 }
+    u8::from(usize::from(rise) < round)
 }
 
 // Entry e of flat tables before a round: it has risen once for each grade that it has reached.
@@ -38,19 +38,10 @@ pub(crate) fn tables_before<'a>(
 {
     let used = GRADES * frames::methods(tables);
     let mut entries = [0u8; ANSWER_LENGTH];
-    let mut e = 0;
-    while e < used {
+    for e in 0..used {
         entries[e] = entry_before(rises, e, round);
-        e = e + 1;
     }
     entries
-}
-
-// A round that was noted, as a number of any size.
-fn noted(rise: u16) -> usize
-    ensures { result ≡ rise }
-{
-    rise as usize
 }
 
 // The round at which an entry of an undeclared method first got a grade. Rounds count from 1, also for a grade of 0.
@@ -61,5 +52,5 @@ pub(crate) fn first_round(rises: &[u16], e: usize, grade: u8) -> usize
     if grade == 0 {
         return 1;
     }
-    noted(rises[MOST_GRADE * e + (grade as usize - 1)])
+    usize::from(rises[MOST_GRADE * e + (usize::from(grade) - 1)])
 }

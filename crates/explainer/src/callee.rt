@@ -1,5 +1,5 @@
 // Where a call goes: the callee's held set whose entry is the call's own part.
-ghost use Rattle.std.specs.Prelude.{◌≡◌, ◌⊎◌, ◌≤◌, ◌<◌, ◌^◌, suc, take};
+ghost use Rattle.std.specs.Prelude.{◌≡◌, ◌⊎◌, ◌≤◌, ◌<◌, ◌^◌, MatchOption, suc, get_or, take};
 ghost use Rattle.counting.specs.Counting.{member};
 ghost use Rattle.frames.specs.Frames.{methods_in};
 ghost use Rattle.frames.specs.Tables.{cell};
@@ -18,25 +18,20 @@ use frames::layout::{GRADES, NO_NAME};
 use grades::held::holds;
 
 // An entry of the callee, and the held set that it stands at.
-#[derive(Drop)]
+#[derive(Clone, Copy)]
 pub(crate) struct Entry {
     pub grade: u8,
     pub set: usize,
 }
 
-// Whether a set of the callee's has its lock i as the caller's name for it allows: held exactly if the caller holds it; without a name
-// held or not.
-fn agrees(name: usize, set: u8, inside: u8, i: u8) -> bool
-    requires { name < 256 }
-    ensures { result ≡ agrees set inside i name }
+// Whether a set of the callee's has its lock i as the caller's name for it in frame j allows: held exactly if the caller holds it;
+// without a name held or not.
+fn agrees(tables: &[u8], j: usize, set: u8, inside: u8, i: usize) -> bool
+    requires { i < layout.names }
+    ensures { result ≡ agrees set inside i (get_or (node_in tables.now j).names i 0) }
 {
-    if name == NO_NAME {
-        return true;
-    }
-    if holds(set, name as u8) {
-        return holds(inside, i);
-    }
-    !holds(inside, i)
+    let name = frames::name(tables, j, i);
+    name == NO_NAME || holds(inside, i as u8) == holds(set, name as u8)
 }
 
 // Whether the call in frame j, under a set, can meet a set of the callee's k locks.
@@ -44,30 +39,21 @@ fn meets(tables: &[u8], j: usize, k: usize, set: u8, inside: u8) -> bool
     requires { (k ≤ layout.names) × (inside < 2 ^ k) }
     ensures { result ≡ member inside (matching (take k (node_in tables.now j).names) set) }
 {
-    let mut i = 0;
-    while i < k {
-        if !agrees(frames::name(tables, j, i), set, inside, i as u8) {
-            return false;
-        }
-        i = i + 1;
-    }
-    true
+    (0..k).all(|i| agrees(tables, j, set, inside, i))
 }
 
 // The next entry, if it is the first or larger; else the best so far.
-fn better(best: Entry, past: usize, grade: u8, set: usize) -> Entry
-    ensures { ((best.set < past) × (grade ≤ best.grade) × (result ≡ best)) ⊎ ((best.set < past → best.grade < grade) × (result ≡ record { grade = grade; set = set })) }
+fn better(best: Option<Entry>, grade: u8, set: usize) -> Entry
+    ensures { MatchOption best (result ≡ record { grade = grade; set = set }) (λ b. ((grade ≤ b.grade) × (result ≡ b)) ⊎ ((b.grade < grade) × (result ≡ record { grade = grade; set = set }))) }
 {
-    if best.set < past {
-        if grade <= best.grade {
-            return best;
-        }
+    match best {
+        Some(best) if grade <= best.grade => best,
+        _ => Entry { grade, set },
     }
-    Entry { grade, set }
 }
 
 // "the lowest among the largest": of the entries of method u before a round that the call in frame j can meet, the largest, and the
-// lowest held set that it stands at.
+// lowest held set that it stands at; none where it can meet none.
 pub(crate) fn callee_entry<'a>(
     tables: &'a [u8],
     rises: &'a [u16],
@@ -75,24 +61,19 @@ pub(crate) fn callee_entry<'a>(
     u: usize,
     set: u8,
     round: usize,
-) -> Entry
+) -> Option<Entry>
     requires ready { Ready tables.now rises.now }
     requires u_bound { (u < methods_in (cell tables.now)) × (1 ≤ round) × (round ≤ suc (rounds (program_in tables.now))) }
-    ensures { Best (tables_before (program_in tables.now) round u) (node_in tables.now j).names (method_at (program_in tables.now) u).k set (entry_count (program_in tables.now) u) (entry_count (program_in tables.now) u) result.grade result.set }
+    ensures { Best (tables_before (program_in tables.now) round u) (node_in tables.now j).names (method_at (program_in tables.now) u).k set (entry_count (program_in tables.now) u) result }
 {
     let k = frames::k(tables, u);
     let sets = frames::entries(k);
-    let mut best = Entry {
-        grade: 0,
-        set: sets,
-    };
-    let mut inside = 0;
-    while inside < sets {
+    let mut best = None;
+    for inside in 0..sets {
         if meets(tables, j, k, set, inside as u8) {
             let grade = entry_before(rises, GRADES * u + inside, round);
-            best = better(best, sets, grade, inside);
+            best = Some(better(best, grade, inside));
         }
-        inside = inside + 1;
     }
     best
 }

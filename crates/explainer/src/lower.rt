@@ -1,10 +1,11 @@
 // The grades of a method's nodes, at each node and held set, each from the grades of the lower nodes: node n under set S at 16n + S.
-ghost use Rattle.std.specs.Prelude.{◌≡◌, ◌+◌, ◌*◌, ◌<◌, length};
+ghost use Rattle.std.specs.Prelude.{◌≡◌, ◌+◌, ◌*◌, ◌<◌, length, unwrap_or};
 ghost use Rattle.frames.specs.Layout.{layout};
 ghost use Rattle.frames.specs.Program.{method_at, node_at};
 ghost use Rattle.meaning.specs.Meaning.{meaning};
 ghost use Rattle.meaning.specs.Lowest.{entry_count};
 ghost use Rattle.solver.specs.Flat.{program_in, tables_in};
+ghost use Rattle.solver.specs.Nodes.{no_child};
 ghost use Rattle.solver.specs.Code.Rounds.{At};
 ghost use Rattle.explainer.specs.Code.Lower.{Read, Lower, child_grade, lower_length};
 
@@ -13,19 +14,20 @@ use frames::layout::{GRADES, MOST_NODES};
 // Room for every node of a method at every held set.
 pub(crate) const LOWER_LENGTH: usize = GRADES * MOST_NODES;
 
-// The grade of a child under a set; 0 of one that the op does not list.
-pub(crate) fn child_grade(lower: &[u8], child: usize, set: u8) -> u8
+// The grade of a child under a set; 0 where there is none.
+#[tactic(auto, unfolding(crate::specs::Code::Lower::child_grade))]
+pub(crate) fn child_grade(lower: &[u8], child: Option<usize>, set: u8) -> u8
     requires { (length lower.now ≡ lower_length) × (set < layout.grades) }
-    ensures { result ≡ child_grade lower.now child set }
+    ensures { result ≡ child_grade lower.now (unwrap_or child no_child) set }
 {
-    if child < MOST_NODES {
-        lower[GRADES * child + set as usize]
-    } else {
-        0
+    match child {
+        Some(child) if child < MOST_NODES => lower[GRADES * child + usize::from(set)],
+        _ => 0,
     }
 }
 
-// The grade of node n of method m under a set, from the lower nodes.
+// The grade of node n of method m under a set, from the lower nodes. The solver's recursion has the children's grades from elsewhere: as a closure in one
+// function it would be asked for being callable, and no public function asks anything.
 fn node_grade<'a>(
     tables: &'a [u8],
     grades: &'a [u8],
@@ -62,11 +64,9 @@ fn grade_node<'a>(
     requires lower { Lower tables.now (tables_in grades.now) m n lower.old }
     ensures { Lower tables.now (tables_in grades.now) m (n + 1) lower.new }
 {
-    let mut set = 0;
-    while set < sets {
+    for set in 0..sets {
         let grade = node_grade(tables, grades, lower, m, first, n, set as u8);
         lower[GRADES * n + set] = grade;
-        set = set + 1;
     }
 }
 
@@ -84,9 +84,7 @@ pub(crate) fn grade_nodes<'a>(
 {
     let count = frames::node_count(tables, m);
     let sets = frames::entries(frames::k(tables, m));
-    let mut n = 0;
-    while n < count {
+    for n in 0..count {
         grade_node(tables, grades, lower, m, first, n, sets);
-        n = n + 1;
     }
 }

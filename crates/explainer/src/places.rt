@@ -1,5 +1,5 @@
 // Places, and the turns from one to the next.
-ghost use Rattle.std.specs.Prelude.{◌≡◌, true, false, ◌+◌, ◌<◌};
+ghost use Rattle.std.specs.Prelude.{◌≡◌, Some, None, ◌+◌, ◌<◌};
 ghost use Rattle.meaning.specs.Constraints.{Entry};
 ghost use Rattle.reasons.specs.Steps.{root_place};
 ghost use Rattle.solver.specs.Flat.{program_in};
@@ -19,40 +19,31 @@ pub(crate) struct Place {
     pub round: usize,
 }
 
-// A step's rule, whether the chain goes on, and then where.
-#[derive(Drop)]
+// A step's rule, and the place that the chain goes on to, if it does. The rule stays a number, to which 8 may be added: it is the byte of a `Step`, which
+// programs in C read.
+#[derive(Clone, Copy)]
 pub(crate) struct Onward {
     pub rule: u8,
-    pub on: bool,
-    pub to: Place,
+    pub to: Option<Place>,
 }
 
 // The chain ends here.
-pub(crate) fn end(at: Place, rule: u8) -> Onward
-    ensures { result ≡ record { rule = rule; on = false; to = at } }
+pub(crate) fn end(rule: u8) -> Onward
+    ensures { result ≡ record { rule = rule; to = None } }
 {
-    Onward {
-        rule,
-        on: false,
-        to: at,
-    }
+    Onward { rule, to: None }
 }
 
 // It goes on to a child, in the same round.
 pub(crate) fn to_child(at: Place, child: usize, set: u8, rule: u8) -> Onward
-    ensures { result ≡ record { rule = rule; on = true; to = record { method = at.method; first = at.first; node = child; set = set; round = at.round } } }
+    ensures { result ≡ record { rule = rule; to = Some (record { method = at.method; first = at.first; node = child; set = set; round = at.round }) } }
 {
-    Onward {
-        rule,
-        on: true,
-        to: Place {
-            method: at.method,
-            first: at.first,
-            node: child,
-            set,
-            round: at.round,
-        },
-    }
+    let to = Place {
+        node: child,
+        set,
+        ..at
+    };
+    Onward { rule, to: Some(to) }
 }
 
 // A method's root under a held set, in a round.

@@ -1,5 +1,5 @@
 // Walking a chain, step by step.
-ghost use Rattle.std.specs.Prelude.{◌≡◌, ◌+◌, ◌≤◌, ◌<◌, T, length};
+ghost use Rattle.std.specs.Prelude.{◌≡◌, ◌+◌, ◌<◌, IfSome, T, length};
 ghost use Rattle.reasons.specs.Steps.{declared_step};
 ghost use Rattle.solver.specs.Flat.{program_in};
 ghost use Rattle.explainer.specs.Code.Lower.{Ready, lower_length};
@@ -26,12 +26,11 @@ pub struct Step {
     pub rule: u8,
 }
 
-// A step, where the chain goes on, and whether it does.
-#[derive(Drop)]
+// A step, and the place that the chain goes on to, if it does.
+#[derive(Clone, Copy)]
 pub(crate) struct Advanced {
     pub step: Step,
-    pub next: Place,
-    pub on: bool,
+    pub next: Option<Place>,
 }
 
 // The step at a place.
@@ -42,7 +41,7 @@ fn step_at<'a>(tables: &'a [u8], rises: &'a [u16], lower: &'a [u8], at: Place) -
 {
     let seen = see(tables, rises, lower, at);
     let grades = seen.grades;
-    let pick = picked_part(&grades, seen.count, seen.whole);
+    let pick = picked_part(&grades[..seen.count], seen.whole);
     let onward = turn(tables, rises, at, seen, pick);
     let step = Step {
         method: at.method as u8,
@@ -52,11 +51,9 @@ fn step_at<'a>(tables: &'a [u8], rises: &'a [u16], lower: &'a [u8], at: Place) -
         grade: seen.whole,
         rule: onward.rule,
     };
-    let next = onward.to;
     Advanced {
         step,
-        next,
-        on: onward.on,
+        next: onward.to,
     }
 }
 
@@ -70,31 +67,19 @@ pub(crate) fn enter<'a>(tables: &'a [u8], rises: &'a [u16], lower: &mut [u8], at
     grade_nodes(tables, &before, lower, at.method, at.first);
 }
 
-// Where a chain stands, and whether the grades of the nodes there are worked out. A declared method that is asked for stands at round 0.
+// Where a chain stands, and whether the grades of the nodes there are worked out: a flag, since it says what the lent buffer holds. A declared method that is
+// asked for stands at round 0, as document 02 has it.
 #[derive(Clone, Copy)]
 pub(crate) struct Walk {
     pub at: Place,
     pub entered: bool,
 }
 
-// For a chain without steps.
-pub(crate) fn nowhere() -> Walk {
-    let at = Place {
-        method: 0,
-        first: 0,
-        node: 0,
-        set: 0,
-        round: 0,
-    };
-    Walk { at, entered: false }
-}
-
-// A step, where the chain goes on, and whether it does.
-#[derive(Drop)]
+// A step, and where the chain goes on, if it does.
+#[derive(Clone, Copy)]
 pub(crate) struct Given {
     pub step: Step,
-    pub next: Walk,
-    pub on: bool,
+    pub next: Option<Walk>,
 }
 
 // "A declared method asked for gives one step: its root, round 0, its declared grade, rule 7."
@@ -107,7 +92,7 @@ fn declared_step(tables: &[u8], at: Place) -> Step
         node: at.node as u16,
         set: at.set,
         round: 0,
-        grade: frames::entry(tables, at.method, at.set as usize) as u8,
+        grade: frames::entry(tables, at.method, usize::from(at.set)) as u8,
         rule: 7,
     }
 }
@@ -125,54 +110,37 @@ fn entered_step<'a>(
     ensures step_is { StepIs tables.now at result }
     ensures node_lower { NodeLower tables.now at lower.new }
 {
-    if entered {
-        return step_at(tables, rises, lower, at);
+    if !entered {
+        enter(tables, rises, lower, at);
     }
-    enter(tables, rises, lower, at);
     step_at(tables, rises, lower, at)
 }
 
-// Whether a chain goes on without entering another round: along a chain rounds only fall.
-fn same_visit(on: bool, from: usize, to: usize) -> bool
-    ensures { T result → T on × (from ≤ to) }
-{
-    if on {
-        if from <= to {
-            return true;
-        }
-    }
-    false
-}
-
-// The next step of a chain. Where it stands in a round that was not entered, the grades of the nodes there are worked out first.
+// The next step of a chain. Where it stands in a round that was not entered, the grades of the nodes there are worked out first. Along a chain rounds
+// only fall: where the round stays, they are known.
 pub(crate) fn give<'a>(tables: &'a [u8], rises: &'a [u16], lower: &mut [u8], walk: Walk) -> Given
     requires going { Going tables.now rises.now walk }
     requires entered { Entered tables.now walk lower.old }
     ensures given_at { GivenAt tables.now rises.now walk result }
-    ensures entered_2 { Entered tables.now result.next lower.new }
+    ensures entered_2 { IfSome result.next (λ next. Entered tables.now next lower.new) }
 {
     let at = walk.at;
     if at.round == 0 {
         let step = declared_step(tables, at);
-        return Given {
-            step,
-            next: walk,
-            on: false,
-        };
+        return Given { step, next: None };
     }
     let one = entered_step(tables, rises, lower, at, walk.entered);
-    let step = one.step;
-    let next = one.next;
-    let entered = same_visit(one.on, at.round, next.round);
-    let to = Walk { at: next, entered };
+    let next = one.next.map(|to| Walk {
+        at: to,
+        entered: at.round <= to.round,
+    });
     Given {
-        step,
-        next: to,
-        on: one.on,
+        step: one.step,
+        next,
     }
 }
 
-// How many steps a chain has.
+// How many steps a chain has. As in `fill`, which has something to fill, only the step before says whether there is one more.
 pub(crate) fn chain_length<'a>(
     tables: &'a [u8],
     rises: &'a [u16],
@@ -183,14 +151,11 @@ pub(crate) fn chain_length<'a>(
     requires entered { Entered tables.now start lower.old }
     ensures { result ≡ length (chain_of tables.now start.at) }
 {
-    let mut walk = start;
+    let mut next = Some(start);
     let mut n = 0;
-    loop {
-        let one = give(tables, rises, lower, walk);
-        n = n + 1;
-        if !one.on {
-            return n;
-        }
-        walk = one.next;
+    while let Some(walk) = next {
+        next = give(tables, rises, lower, walk).next;
+        n += 1;
     }
+    n
 }

@@ -2,7 +2,8 @@
 -- are high byte first.
 -- Assumes nothing.
 use Rattle.std.specs.Prelude.{ℕ, ◌/◌, ◌%◌, cond, List, [], ◌∷◌, ◌++◌, eqb, length}
-use Rattle.checker.specs.Grading.{Numbers, numbers_of, verdict_of, answer_of}
+use Rattle.checker.specs.Grading.{numbers_of, verdict_of, answer_of}
+use Rattle.checker.specs.declared.numbers.Numbers.{Numbers}
 use Rattle.explainer.specs.Explain as explain
 use Rattle.explainer.specs.declared.walk.Step.{Step}
 

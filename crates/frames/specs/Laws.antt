@@ -2,6 +2,7 @@
 pub mod Tables
 pub mod Program
 pub mod Ranges
+pub mod Ops
 pub mod Links
 pub mod Marks
 pub mod Owners

@@ -1,7 +1,7 @@
 -- What reading a text promises, in full: it reads exactly the texts without a fault, its tables stand for their program, which is well
 -- formed, and a refusal names the first line with a fault and the lowest number there.
 -- Assumes nothing.
-use Rattle.std.specs.Prelude.{ℕ, ◌+◌, ◌-◌, ◌*◌, ◌/◌, ◌%◌, ◌≤◌, ◌<◌, ◌≡◌, refl, List, [], ◌⊎◌, length, get_or}
+use Rattle.std.specs.Prelude.{ℕ, ◌+◌, ◌-◌, ◌*◌, ◌/◌, ◌%◌, ◌≤◌, ◌<◌, ◌≡◌, refl, List, [], ◌⊎◌, length, get_or, Option, Some, None, Result, Ok, Err}
 use Rattle.std.proofs.Common.{ap, sym, ◌∙◌, inl, inr, ⊎_elim, arith, ltb-true}
 use Rattle.std.proofs.Math.Path.{fun_ext, subst⁻¹}
 use Rattle.std.proofs.Math.ListN.{get_or-eq_default}
@@ -11,121 +11,118 @@ use Rattle.lines.specs.Laws.Lines.{frame-length-some, frame-length-good}
 use Rattle.frames.specs.Frames.{Frames, frames_of, due}
 use Rattle.frames.specs.Tables.{cell, table_of, program_of}
 use Rattle.frames.specs.Laws.Tables.{cell_in, cell-past-frame, cell-past-byte}
-use Rattle.frames.specs.Reading.{fault_at, read_all, outcome_of, no_tables, tables_of, checked_lines, read_text}
+use Rattle.frames.specs.Reading.{fault_at, read_all, refusal_of, checked, checked_lines, read_text}
 use Rattle.frames.specs.FirstFault.{Lowest, First, Faultless}
 use Rattle.frames.specs.Laws.Sound.{passes_at, header-sound, not-over}
 use Rattle.frames.specs.Laws.Steps.{placed-short}
-use Rattle.frames.specs.Laws.WholeText.{fault-outcome, text-lines, read-long}
+use Rattle.frames.specs.Laws.WholeText.{fault-refusal, text-lines, read-long}
 use Rattle.frames.specs.Laws.Going.{which}
 use Rattle.frames.specs.WellFormed.{WellFormed}
 use Rattle.frames.specs.Laws.WellFormed.{well-formed}
-use Rattle.frames.specs.declared.Checked.{Checked}
+use Rattle.frames.specs.declared.Tables.{Tables}
 use Rattle.frames.specs.declared.Due.TheVariants.{End}
-use Rattle.frames.specs.declared.Outcome.{Outcome}
+use Rattle.frames.specs.declared.Refusal.{Refusal}
 use Rattle.frames.specs.declared.Fault.{Fault}
-use Rattle.frames.specs.declared.Fault.TheVariants.{Sound, Malformed, Misplaced, OutOfRange, Unlinked}
+use Rattle.frames.specs.declared.Fault.TheVariants.{Malformed, Misplaced, OutOfRange, Unlinked}
 use Rattle.counting.specs.Laws.Tests.{lt-or-le}
 use Rattle.counting.specs.Laws.Lists.{get_or-tabulate}
 use Rattle.frames.specs.Laws.FirstFault.{lowest, Stops, stops, exactly, exactly-read}
 
--- ---- the fault and the lines before it, from an outcome
+-- ---- the fault and the lines before it, from what reading comes to
 
-abbrev fault_in : Outcome → Fault
-fault_in Outcome.Whole = Sound
-fault_in Outcome.Overlong = Sound
-fault_in (Outcome.Malformed l) = Malformed
-fault_in (Outcome.Misplaced l) = Misplaced
-fault_in (Outcome.OutOfRange l) = OutOfRange
-fault_in (Outcome.Unlinked l) = Unlinked
+abbrev fault_in : Refusal → Option Fault
+fault_in Refusal.Overlong = None
+fault_in (Refusal.Malformed l) = Some Malformed
+fault_in (Refusal.Misplaced l) = Some Misplaced
+fault_in (Refusal.OutOfRange l) = Some OutOfRange
+fault_in (Refusal.Unlinked l) = Some Unlinked
 
-abbrev before_in : Outcome → ℕ
-before_in Outcome.Whole = 0
-before_in Outcome.Overlong = 0
-before_in (Outcome.Malformed l) = l - 1
-before_in (Outcome.Misplaced l) = l - 1
-before_in (Outcome.OutOfRange l) = l - 1
-before_in (Outcome.Unlinked l) = l - 1
+abbrev before_in : Refusal → ℕ
+before_in Refusal.Overlong = 0
+before_in (Refusal.Malformed l) = l - 1
+before_in (Refusal.Misplaced l) = l - 1
+before_in (Refusal.OutOfRange l) = l - 1
+before_in (Refusal.Unlinked l) = l - 1
 
-fault-in : (x : Fault) (i : ℕ) → fault_in (outcome_of x i) ≡ x
-fault-in Sound i = refl
+fault-in : (x : Fault) (i : ℕ) → fault_in (refusal_of x i) ≡ Some x
 fault-in Malformed i = refl
 fault-in Misplaced i = refl
 fault-in OutOfRange i = refl
 fault-in Unlinked i = refl
 
-before-in : (x : Fault) (i : ℕ) → (x ≡ Sound → ⊥) → before_in (outcome_of x i) ≡ i
-before-in Sound i h = absurd (h refl)
-before-in Malformed i h = omega arith
-before-in Misplaced i h = omega arith
-before-in OutOfRange i h = omega arith
-before-in Unlinked i h = omega arith
+before-in : (x : Fault) (i : ℕ) → before_in (refusal_of x i) ≡ i
+before-in Malformed i = omega arith
+before-in Misplaced i = omega arith
+before-in OutOfRange i = omega arith
+before-in Unlinked i = omega arith
+
+-- two refusals of lines that are the same are of one fault and one line
+same-refusal : (x y : Fault) (i j : ℕ) → refusal_of x i ≡ refusal_of y j → (x ≡ y) × (i ≡ j)
+same-refusal x y i j e =
+    let z : Some x ≡ Some y = sym (fault-in x i) ∙ (ap fault_in e ∙ fault-in y j) in
+    (cc, sym (before-in x i) ∙ (ap before_in e ∙ before-in y j))
 
 -- ---- a text that is too long
 
-pub long-exactly : (t : List ℕ) → layout.most_text < length t → read_text t ≡ record { outcome = Outcome.Overlong; tables = no_tables }
-long-exactly t h = sym (read-long t h)
+pub long-exactly : (t : List ℕ) → layout.most_text < length t → read_text t ≡ Err Refusal.Overlong
+long-exactly = read-long
 
--- the outcome of a text that is not
-pub short-outcome : (t : List ℕ) → length t ≤ layout.most_text → (read_text t).outcome ≡ outcome_of (read_all (lines t)).fault (read_all (lines t)).before
+-- what a text comes to that is not
+pub short-outcome : (t : List ℕ) → length t ≤ layout.most_text → read_text t ≡ checked (lines t) (read_all (lines t)).fault (read_all (lines t)).before
 unfolding checked_lines
-short-outcome t h = ap (λ (c : Checked). c.outcome) (text-lines t h)
+short-outcome = text-lines
 
--- no outcome of the lines is that of a long text
-not-long : (t : List ℕ) (o : Outcome) → (read_text t).outcome ≡ o → (Outcome.Overlong ≡ o → ⊥) → length t ≤ layout.most_text
+-- nothing that lines come to is the refusal of a long text
+not-long : (t : List ℕ) (o : Result Tables Refusal) → read_text t ≡ o → (Err Refusal.Overlong ≡ o → ⊥) → length t ≤ layout.most_text
 not-long t o e h =
     ⊎_elim
-    (λ (l : layout.most_text < length t). absurd (h (ap (λ (c : Checked). c.outcome) (read-long t l) ∙ e)))
+    (λ (l : layout.most_text < length t). absurd (h (sym (read-long t l) ∙ e)))
     (λ (g : length t ≤ layout.most_text). g)
     (lt-or-le layout.most_text (length t))
 
 -- ---- refusals 3 to 6
 
-pub refused : (t : List ℕ) (x : Fault) (i : ℕ) → (x ≡ Sound → ⊥) → (read_text t).outcome ≡ outcome_of x i → (length t ≤ layout.most_text) × First (lines t) x i
-refused t x i h e =
-    let s = not-long t (outcome_of x i) e (λ q. h (sym (fault-in x i) ∙ sym (ap fault_in q))) in
-    let q = sym (short-outcome t s) ∙ e in
-    let ef : (read_all (lines t)).fault ≡ x = sym (fault-in (read_all (lines t)).fault (read_all (lines t)).before) ∙ (ap fault_in q ∙ fault-in x i) in
-    let eb : (read_all (lines t)).before ≡ i =
-    sym (before-in (read_all (lines t)).fault (read_all (lines t)).before (λ p. h (sym ef ∙ p))) ∙ (ap before_in q ∙ before-in x i h) in
-    (s, first x i h (rw (ef, eb) at (stops (lines t))))
+pub refused : (t : List ℕ) (x : Fault) (i : ℕ) → read_text t ≡ Err (refusal_of x i) → (length t ≤ layout.most_text) × First (lines t) x i
+refused t x i e =
+    let s = not-long t (Err (refusal_of x i)) e (λ q. let z : Refusal.Overlong ≡ refusal_of x i = cc in
+    let y : None ≡ Some x = ap fault_in z ∙ fault-in x i in
+    let n : ◌≡◌ {A = ℕ} 0 1 = cc in
+    omega arith) in
+    (s, first (read_all (lines t)).fault (read_all (lines t)).before (sym (short-outcome t s) ∙ e) (stops (lines t)))
   where
-    first : (x : Fault) (i : ℕ) → (x ≡ Sound → ⊥) → Stops (lines t) x i → First (lines t) x i
-    first Sound i h v = absurd (h refl)
-    first Malformed i h v = v
-    first Misplaced i h v = v
-    first OutOfRange i h v = v
-    first Unlinked i h v = v
+    first : (y : Option Fault) (j : ℕ) → checked (lines t) y j ≡ Err (refusal_of x i) → Stops (lines t) y j → First (lines t) x i
+    first None j q v = absurd (let z : ◌≡◌ {A = ℕ} 0 1 = cc in omega arith)
+    first (Some y) j q v =
+        let p : refusal_of y j ≡ refusal_of x i = cc in
+        let r = same-refusal y x j i p in
+        rw (r.0, r.1) at v
 
-pub refused-exactly : (t : List ℕ) (x : Fault) (i : ℕ) → length t ≤ layout.most_text → First (lines t) x i → read_text t ≡ record { outcome = outcome_of x i; tables = no_tables }
+pub refused-exactly : (t : List ℕ) (x : Fault) (i : ℕ) → length t ≤ layout.most_text → First (lines t) x i → read_text t ≡ Err (refusal_of x i)
 refused-exactly t x i s a =
     let e = exactly (lines t) x i a in
-    text-lines t s ∙ fault-outcome (lines t) x i a.fault (λ k. record { fault = e.0 k; before = e.1 k })
+    text-lines t s ∙ fault-refusal (lines t) x i (λ k. record { fault = e.0 k; before = e.1 k })
 
 -- no lower number applies in the named line
-pub first-lowest : (ls : List (List ℕ)) (x : Fault) (i : ℕ) → fault_at ls i ≡ x → Lowest (frames_of ls) (due (frames_of ls) i) i (get_or ls i []) x
+pub first-lowest : (ls : List (List ℕ)) (x : Option Fault) (i : ℕ) → fault_at ls i ≡ x → Lowest (frames_of ls) (due (frames_of ls) i) i (get_or ls i []) x
 unfolding fault_at
 first-lowest ls x i e = rw e at (lowest (frames_of ls) (due (frames_of ls) i) i (get_or ls i []))
 
 -- ---- a text that reads
 
-whole-stops : (ls : List (List ℕ)) (x : Fault) (i : ℕ) → outcome_of x i ≡ Outcome.Whole → Stops ls x i → Faultless ls
-whole-stops ls Sound i e v = v
-whole-stops ls Malformed i e v = absurd (let z : ◌≡◌ {A = ℕ} 0 1 = cc in omega arith)
-whole-stops ls Misplaced i e v = absurd (let z : ◌≡◌ {A = ℕ} 0 1 = cc in omega arith)
-whole-stops ls OutOfRange i e v = absurd (let z : ◌≡◌ {A = ℕ} 0 1 = cc in omega arith)
-whole-stops ls Unlinked i e v = absurd (let z : ◌≡◌ {A = ℕ} 0 1 = cc in omega arith)
+whole-stops : (ls : List (List ℕ)) (x : Option Fault) (i : ℕ) (T : Tables) → checked ls x i ≡ Ok T → Stops ls x i → Faultless ls
+whole-stops ls None i T e v = v
+whole-stops ls (Some x) i T e v = absurd (let z : ◌≡◌ {A = ℕ} 0 1 = cc in omega arith)
 
-pub read-faultless : (t : List ℕ) → (read_text t).outcome ≡ Outcome.Whole → (length t ≤ layout.most_text) × Faultless (lines t)
-read-faultless t e =
-    let s = not-long t Outcome.Whole e (λ q. let z : ◌≡◌ {A = ℕ} 0 1 = cc in omega arith) in
-    (s, whole-stops (lines t) (read_all (lines t)).fault (read_all (lines t)).before (sym (short-outcome t s) ∙ e) (stops (lines t)))
+pub read-faultless : (t : List ℕ) (T : Tables) → read_text t ≡ Ok T → (length t ≤ layout.most_text) × Faultless (lines t)
+read-faultless t T e =
+    let s = not-long t (Ok T) e (λ q. let z : ◌≡◌ {A = ℕ} 0 1 = cc in omega arith) in
+    (s, whole-stops (lines t) (read_all (lines t)).fault (read_all (lines t)).before T (sym (short-outcome t s) ∙ e) (stops (lines t)))
 
 pub read-exactly : (t : List ℕ) → length t ≤ layout.most_text → Faultless (lines t)
-    → read_text t ≡ record { outcome = Outcome.Whole; tables = record { bytes = table_of (frames_of (lines t)) } }
+    → read_text t ≡ Ok (record { bytes = table_of (frames_of (lines t)) })
 unfolding checked_lines
 read-exactly t s b =
-    text-lines t s
-    ∙ ap (λ (x : Fault). record { outcome = outcome_of x (read_all (lines t)).before; tables = tables_of x (lines t) }) (exactly-read (lines t) b)
+    text-lines t s ∙ ap (λ (x : Option Fault). checked (lines t) x (read_all (lines t)).before) (exactly-read (lines t) b)
 
 -- the tables hold the frames of the text, each of them and nothing else
 table-frames : (ls : List (List ℕ)) → Faultless ls → cell (table_of (frames_of ls)) ≡ frames_of ls
@@ -171,11 +168,15 @@ table-frames ls ok = fun_ext (λ j. fun_ext (λ b. at j b (lt-or-le j (length ls
         (lt-or-le j layout.most_frames)
 
 -- the tables of a text that reads stand for its program
-pub tables-stand : (t : List ℕ) → (read_text t).outcome ≡ Outcome.Whole → cell (read_text t).tables.bytes ≡ frames_of (lines t)
-tables-stand t e =
-    let f = read-faultless t e in
-    ap (λ (c : Checked). cell c.tables.bytes) (read-exactly t f.0 f.1) ∙ table-frames (lines t) f.1
+pub tables-stand : (t : List ℕ) (T : Tables) → read_text t ≡ Ok T → cell T.bytes ≡ frames_of (lines t)
+tables-stand t T e =
+    let f = read-faultless t T e in
+    let z : T ≡ record { bytes = table_of (frames_of (lines t)) } = ok-same (sym e ∙ read-exactly t f.0 f.1) in
+    ap (λ (u : Tables). cell u.bytes) z ∙ table-frames (lines t) f.1
+  where
+    ok-same : {x y : Tables} → ◌≡◌ {A = Result Tables Refusal} (Ok x) (Ok y) → x ≡ y
+    ok-same p = cc
 
 -- and that program is well formed
-pub read-well-formed : (t : List ℕ) → (read_text t).outcome ≡ Outcome.Whole → WellFormed (program_of (cell (read_text t).tables.bytes))
-read-well-formed t e = subst⁻¹ (λ (f : Frames). WellFormed (program_of f)) (tables-stand t e) (well-formed (lines t) (read-faultless t e).1)
+pub read-well-formed : (t : List ℕ) (T : Tables) → read_text t ≡ Ok T → WellFormed (program_of (cell T.bytes))
+read-well-formed t T e = subst⁻¹ (λ (f : Frames). WellFormed (program_of f)) (tables-stand t T e) (well-formed (lines t) (read-faultless t T e).1)

@@ -1,30 +1,31 @@
-// What the checked tables say. A number that the tables have no room for counts as one whose bytes are all 0.
+// What the checked tables say. A number that the tables have no room for counts as one whose bytes are all 0. Each function takes any list of bytes and gives a
+// `usize`, as its promise in docs/CONTRACTS.md says: so they are no methods of `Tables`, which has one length, and `Byte` and `Wide` are what allows a cast
+// to fewer bits above. The three children are promised apart.
 ghost use Rattle.std.specs.Prelude.{◌≡◌, ◌*◌, ◌^◌, ◌≤◌, ◌<◌, min, length, get_or};
 ghost use Rattle.frames.specs.Layout.{layout};
 ghost use Rattle.frames.specs.Frames.{two, methods_in, fields_in, nodes_in, field_frame, method_frame};
 ghost use Rattle.frames.specs.Links.{nodes_before};
+ghost use Rattle.frames.specs.Ops.{op_named};
 ghost use Rattle.frames.specs.Tables.{cell, field_of, method_of, node_of, first_frame, Byte, Wide};
 
+use crate::Op;
 use crate::layout::{
-    COUNT_AT, DECLARED_AT, FIELDS_AT, GRADES, GRADES_AT, GUARD_AT, K_AT, METHODS_AT, MOST_FRAMES,
-    NAMES, NAMES_AT, NODES_AT, OP_AT, STRIDE, U_AT, WIDTH_AT, X_AT, Y_AT, Z_AT,
+    COUNT_AT, DECLARED_AT, FIELDS_AT, GRADES_AT, GUARD_AT, K_AT, METHODS_AT, MOST_FRAMES,
+    MOST_NAMES, NAMES, NAMES_AT, NODES_AT, OP_AT, STRIDE, U_AT, WIDTH_AT, X_AT, Y_AT, Z_AT,
 };
 
 // Byte b of frame j; 0 for a frame or a byte that the tables have no room for.
+#[tactic(auto, unfolding(crate::specs::Tables::cell))]
 pub fn cell(tables: &[u8], j: usize, b: usize) -> usize
     ensures { Byte result (cell tables.now j b) }
 {
-    if MOST_FRAMES <= j {
+    if MOST_FRAMES <= j || STRIDE <= b {
         return 0;
     }
-    if STRIDE <= b {
-        return 0;
+    match tables.get(j * STRIDE + b) {
+        Some(byte) => usize::from(*byte),
+        None => 0,
     }
-    let p = j * STRIDE + b;
-    if tables.len() <= p {
-        return 0;
-    }
-    tables[p] as usize
 }
 
 // The two-byte number at byte b of frame j.
@@ -54,23 +55,19 @@ pub fn nodes(tables: &[u8]) -> usize
 }
 
 // Byte b of the frame of field i.
+#[tactic(auto, unfolding(crate::specs::Tables::cell))]
 fn field_cell(tables: &[u8], i: usize, b: usize) -> usize
     ensures { Byte result (field_frame (cell tables.now) i b) }
 {
-    if MOST_FRAMES <= i {
-        return 0;
-    }
-    cell(tables, 1 + i, b)
+    cell(tables, i.saturating_add(1), b)
 }
 
 // Byte b of the frame of method m.
+#[tactic(auto, unfolding(crate::specs::Tables::cell))]
 fn method_cell(tables: &[u8], m: usize, b: usize) -> usize
     ensures { Byte result (method_frame (cell tables.now) m b) }
 {
-    if MOST_FRAMES <= m {
-        return 0;
-    }
-    cell(tables, 1 + fields(tables) + m, b)
+    cell(tables, m.saturating_add(1 + fields(tables)), b)
 }
 
 pub fn width(tables: &[u8], i: usize) -> usize
@@ -101,13 +98,7 @@ pub fn declared(tables: &[u8], m: usize) -> bool
 pub fn entries(k: usize) -> usize
     ensures { result ≡ min (2 ^ k) layout.grades }
 {
-    match k {
-        0 => 1,
-        1 => 2,
-        2 => 4,
-        3 => 8,
-        _ => GRADES,
-    }
+    1 << k.min(MOST_NAMES)
 }
 
 // The declared grade of method m at held set h; 0 past its table.
@@ -127,28 +118,24 @@ pub fn node_count(tables: &[u8], m: usize) -> usize
 }
 
 // How many nodes the methods below m have.
+#[tactic(auto, unfolding(crate::specs::Links::nodes_before))]
 pub(crate) fn nodes_before(tables: &[u8], m: usize) -> usize
     requires { m ≤ layout.most_frames }
     ensures { (result ≡ nodes_before (cell tables.now) m) × (result ≤ 65536 * m) }
 {
-    let mut total: usize = 0;
-    let mut i: usize = 0;
-    while i < m {
-        total = total + node_count(tables, i);
-        i = i + 1;
+    let mut total = 0;
+    for i in 0..m {
+        total += node_count(tables, i);
     }
     total
 }
 
 // The frame of method m's first node.
+#[tactic(auto, using(crate::specs::Laws::Tables::nodes_before_most))]
 pub fn first_frame(tables: &[u8], m: usize) -> usize
     ensures { result ≡ first_frame (cell tables.now) m }
 {
-    let start = 1 + fields(tables) + methods(tables);
-    if MOST_FRAMES < m {
-        return start + nodes_before(tables, MOST_FRAMES);
-    }
-    start + nodes_before(tables, m)
+    1 + fields(tables) + methods(tables) + nodes_before(tables, m.min(MOST_FRAMES))
 }
 
 // The node in frame j: its op, its children X, Y, Z, its field or method U.
@@ -156,6 +143,13 @@ pub fn op(tables: &[u8], j: usize) -> usize
     ensures { Byte result (node_of (cell tables.now j)).op }
 {
     cell(tables, j, OP_AT)
+}
+
+// The same op by its name.
+pub fn op_at(tables: &[u8], j: usize) -> Op
+    ensures { result ≡ op_named (node_of (cell tables.now j)).op }
+{
+    Op::from(op(tables, j))
 }
 
 pub fn child_x(tables: &[u8], j: usize) -> usize

@@ -74,7 +74,7 @@ pub const U_AT: usize = 8;
 
 pub const NAMES_AT: usize = 9;
 
-// A name that the caller does not have.
+// A name that the caller does not have. It is a byte of the text.
 pub const NO_NAME: usize = 255;
 
 // The tables: how many bytes a frame takes, how many frames there are, and how many bytes that is.

@@ -1,9 +1,12 @@
-// Frames: from any text to checked tables (document 01, "Frames" and "Refusal numbers").
+// Frames: from any text to checked tables (document 01, "Frames" and "Refusal numbers"). Here and in the crates above nothing is allocated, so that programs in
+// C can call it: tables and marks are arrays of a fixed size, and what is read or filled is lent. A loop is a `for` over a number where its invariant speaks of
+// that number.
 #![tactic(auto)]
 
 mod accessors;
 pub mod layout;
 mod links;
+mod ops;
 mod ranges;
 mod reading;
 
@@ -16,10 +19,9 @@ pub struct Tables {
     pub bytes: [u8; TABLES_LENGTH],
 }
 
-// What reading a text comes to; a refusal for a line gives the line, from 1.
-#[derive(Clone, Copy)]
-pub enum Outcome {
-    Whole,
+// Why a text is not read; a refusal for a line gives the line, from 1.
+#[derive(Clone, Copy, Debug, PartialEq, Eq)]
+pub enum Refusal {
     Overlong,
     Malformed(usize),
     Misplaced(usize),
@@ -27,23 +29,15 @@ pub enum Outcome {
     Unlinked(usize),
 }
 
-// The tables are all 0 unless the text is whole.
-#[derive(Drop)]
-pub struct Checked {
-    pub outcome: Outcome,
-    pub tables: Tables,
-}
-
 // One text of a longer stream, and the place after it.
 #[derive(Drop)]
 pub struct OneText {
-    pub outcome: Outcome,
     pub tables: Tables,
     pub after: Place,
 }
 
-// The frame that is due next.
-#[derive(Clone, Copy)]
+// The frame that is due next. The end is a case beside the others, as `due` in specs/Frames has it.
+#[derive(Clone, Copy, Debug, PartialEq, Eq)]
 pub enum Due {
     Header,
     Field,
@@ -53,9 +47,8 @@ pub enum Due {
 }
 
 // What is wrong with a line.
-#[derive(Clone, Copy)]
+#[derive(Clone, Copy, Debug, PartialEq, Eq)]
 pub enum Fault {
-    Sound,
     Malformed,
     Misplaced,
     OutOfRange,
@@ -63,7 +56,7 @@ pub enum Fault {
 }
 
 // The method that the next node stands in, and the node's number there.
-#[derive(Clone, Copy)]
+#[derive(Clone, Copy, Debug, PartialEq, Eq)]
 pub struct Stand {
     pub method: usize,
     pub number: usize,
@@ -71,7 +64,8 @@ pub struct Stand {
 
 pub use accessors::{
     cell, child_x, child_y, child_z, declared, entries, entry, fields, first_frame, guard, k,
-    methods, name, node_count, nodes, op, used, width,
+    methods, name, node_count, nodes, op, op_at, used, width,
 };
+pub use ops::Op;
 pub use ranges::children_listed;
 pub use reading::{line, number, read};

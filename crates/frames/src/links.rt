@@ -4,26 +4,28 @@ ghost use Rattle.std.specs.Prelude.{◌≡◌, cond, [], ◌∷◌, ◌≤◌, �
 ghost use Rattle.frames.specs.Layout.{layout};
 ghost use Rattle.frames.specs.Tables.{cell};
 ghost use Rattle.frames.specs.Links.{children_of, name_or_none, guard_uses, access_linked, call_name_linked, call_linked, fork_linked, names_linked, method_linked};
-ghost use Rattle.frames.specs.Code.Marks.{Named, Linked};
+ghost use Rattle.frames.specs.Code.Marks.{Named, Linked, list_of};
 ghost use Rattle.counting.specs.Counting.{every};
 
-use crate::accessors::{cell, fields, guard, k, methods, nodes, nodes_before, two};
-use crate::layout::{NAMES, NAMES_AT, NO_NAME, OP_AT, U_AT, X_AT, Y_AT, Z_AT};
-use crate::ranges::children_listed;
-use crate::{Due, Stand};
+use crate::accessors::{cell, fields, guard, k, methods, nodes, nodes_before, op_at, two};
+use crate::layout::{NAMES, NAMES_AT, NO_NAME, U_AT, X_AT, Y_AT, Z_AT};
+use crate::{Due, Op, Stand};
 
-// The child c of node `number`, if the op lists it: whether it is below its node and not yet named. It is named from now on.
-fn name_child(named: &mut [u8], number: usize, listed: bool, c: usize) -> bool
+// The guards that use a lock.
+const GUARDED: usize = 1;
+
+const WRITE_GUARDED: usize = 2;
+
+// A child of node `number`, if there is one: whether it is below its node and not yet named. It is named from now on.
+#[tactic(auto, unfolding(crate::specs::Code::Marks::fresh_in, crate::specs::Code::Marks::marked))]
+fn name_child(named: &mut [u8], number: usize, child: Option<usize>) -> bool
     requires { number ≤ length named.old }
-    ensures { Named result number named.old named.new (cond listed (c ∷ []) []) }
+    ensures { Named result number named.old named.new (list_of child) }
 {
-    if !listed {
+    let Some(c) = child else {
         return true;
-    }
-    if number <= c {
-        return false;
-    }
-    if named[c] == 1 {
+    };
+    if number <= c || named[c] == 1 {
         return false;
     }
     named[c] = 1;
@@ -35,35 +37,27 @@ fn name_children(tables: &[u8], named: &mut [u8], j: usize, number: usize) -> bo
     requires { number ≤ length named.old }
     ensures { Named result number named.old named.new (children_of (cell tables.now j)) }
 {
-    let listed = children_listed(cell(tables, j, OP_AT));
-    if !name_child(named, number, 0 < listed, two(tables, j, X_AT)) {
-        return false;
-    }
-    if !name_child(named, number, 1 < listed, two(tables, j, Y_AT)) {
-        return false;
-    }
-    name_child(named, number, 2 < listed, two(tables, j, Z_AT))
+    let listed = op_at(tables, j).children();
+    name_child(named, number, (0 < listed).then_some(two(tables, j, X_AT)))
+        && name_child(named, number, (1 < listed).then_some(two(tables, j, Y_AT)))
+        && name_child(named, number, (2 < listed).then_some(two(tables, j, Z_AT)))
 }
 
 // A name of the method, or FF.
 fn name_or_none(k: usize, t: usize) -> bool
     ensures { result ≡ name_or_none k t }
 {
-    if t < k {
-        return true;
-    }
-    t == NO_NAME
+    t < k || t == NO_NAME
 }
 
+// Guards by number: this crate stands on no `grades`, whose enum names them.
 fn guard_uses(guard: usize) -> bool
     ensures { result ≡ guard_uses guard }
 {
-    if guard == 1 {
-        return true;
-    }
-    guard == 2
+    matches!(guard, GUARDED | WRITE_GUARDED)
 }
 
+#[tactic(auto, unfolding(crate::specs::Links::access_linked))]
 fn access_linked(tables: &[u8], j: usize, k: usize) -> bool
     ensures { result ≡ access_linked (cell tables.now) k (cell tables.now j) }
 {
@@ -73,123 +67,89 @@ fn access_linked(tables: &[u8], j: usize, k: usize) -> bool
         return false;
     }
     if guard_uses(guard(tables, field)) {
-        return name_or_none(k, lock);
+        name_or_none(k, lock)
+    } else {
+        lock == 0
     }
-    lock == 0
 }
 
+#[tactic(auto, unfolding(crate::specs::Links::call_name_linked))]
 fn call_name_linked(tables: &[u8], j: usize, callee: usize, k: usize, t: usize) -> bool
     requires { t < layout.names }
     ensures { result ≡ call_name_linked callee k (cell tables.now j) t }
 {
     let name = cell(tables, j, NAMES_AT + t);
     if t < callee {
-        return name_or_none(k, name);
+        name_or_none(k, name)
+    } else {
+        name == 0
     }
-    name == 0
 }
 
 fn call_names_linked(tables: &[u8], j: usize, callee: usize, k: usize) -> bool
     ensures { result ≡ every layout.names (call_name_linked callee k (cell tables.now j)) }
 {
-    let mut t: usize = 0;
-    while t < NAMES {
-        if !call_name_linked(tables, j, callee, k, t) {
-            return false;
-        }
-        t = t + 1;
-    }
-    true
+    (0..NAMES).all(|t| call_name_linked(tables, j, callee, k, t))
 }
 
+#[tactic(auto, unfolding(crate::specs::Links::call_linked))]
 fn call_linked(tables: &[u8], j: usize, own: usize) -> bool
     ensures { result ≡ call_linked (cell tables.now) own (cell tables.now j) }
 {
     let method = cell(tables, j, U_AT);
-    if methods(tables) <= method {
-        return false;
-    }
-    call_names_linked(tables, j, k(tables, method), own)
+    method < methods(tables) && call_names_linked(tables, j, k(tables, method), own)
 }
 
+#[tactic(auto, unfolding(crate::specs::Links::fork_linked))]
 fn fork_linked(tables: &[u8], j: usize) -> bool
     ensures { result ≡ fork_linked (cell tables.now) (cell tables.now j) }
 {
     let method = cell(tables, j, U_AT);
-    if methods(tables) <= method {
-        return false;
-    }
-    0 < k(tables, method)
+    method < methods(tables) && 0 < k(tables, method)
 }
 
 // U and the names of the node in frame j, whose method has `own` names.
+#[tactic(auto, using(crate::specs::Laws::Links::names_named))]
 fn names_linked(tables: &[u8], j: usize, own: usize) -> bool
     ensures { result ≡ names_linked (cell tables.now) own (cell tables.now j) }
 {
-    let op = cell(tables, j, OP_AT);
-    if op == 1 {
-        return access_linked(tables, j, own);
+    match op_at(tables, j) {
+        Op::Read | Op::Write => access_linked(tables, j, own),
+        Op::Synchronised => cell(tables, j, NAMES_AT) < own,
+        Op::Call => call_linked(tables, j, own),
+        Op::Fork => fork_linked(tables, j),
+        _ => true,
     }
-    if op == 2 {
-        return access_linked(tables, j, own);
-    }
-    if op == 6 {
-        return cell(tables, j, NAMES_AT) < own;
-    }
-    if op == 8 {
-        return call_linked(tables, j, own);
-    }
-    if op == 9 {
-        return fork_linked(tables, j);
-    }
-    true
-}
-
-// a less b, 0 if b is larger.
-fn less(a: usize, b: usize) -> usize
-    ensures { result ≡ a - b }
-{
-    if a < b {
-        return 0;
-    }
-    a - b
 }
 
 // Method m: at the last one the counts total the header's nodes.
+#[tactic(auto, unfolding(crate::specs::Links::method_linked))]
 fn method_linked(tables: &[u8], m: usize) -> bool
     requires { m ≤ layout.most_frames }
     ensures { result ≡ method_linked (cell tables.now) m }
 {
     let count = methods(tables);
-    if m + 1 == count {
-        return nodes_before(tables, count) == nodes(tables);
-    }
-    true
+    m + 1 != count || nodes_before(tables, count) == nodes(tables)
 }
 
 // The node in frame j; its children are named from now on.
+#[tactic(auto, unfolding(crate::specs::Code::Marks::linked_by, crate::specs::Code::Marks::marked_by))]
 fn node_linked(tables: &[u8], named: &mut [u8], j: usize, method: usize, number: usize) -> bool
     requires { number ≤ length named.old }
     ensures { Linked result (cell tables.now) named.old named.new Due.Node j method number }
 {
-    if !name_children(tables, named, j, number) {
-        return false;
-    }
-    names_linked(tables, j, k(tables, method))
+    name_children(tables, named, j, number) && names_linked(tables, j, k(tables, method))
 }
 
 // The test of frame i, which is due.
+#[tactic(auto, unfolding(crate::specs::Code::Marks::linked_by, crate::specs::Code::Marks::marked_by))]
 pub(crate) fn linked(tables: &[u8], named: &mut [u8], due: Due, i: usize, stand: Stand) -> bool
     requires { (i < layout.most_frames) × (stand.number ≤ length named.old) }
     ensures { Linked result (cell tables.now) named.old named.new due i stand.method stand.number }
 {
-    let method = stand.method;
-    let number = stand.number;
     match due {
-        Due::Header => true,
-        Due::Field => true,
-        Due::Method => method_linked(tables, less(i, 1 + fields(tables))),
-        Due::Node => node_linked(tables, named, i, method, number),
-        Due::End => true,
+        Due::Header | Due::Field | Due::End => true,
+        Due::Method => method_linked(tables, i.saturating_sub(1 + fields(tables))),
+        Due::Node => node_linked(tables, named, i, stand.method, stand.number),
     }
 }

@@ -1,4 +1,5 @@
-// Grades and their arithmetic (document 01). A number over 4 counts as grade 4.
+// Grades and their arithmetic (document 01): 0 const, 1 mover, 2 atomic, 3 cmpd, 4 error. A number over 4 counts as grade 4.
+// Grades are bytes and no enum: each number has an answer in the promises, and the answer's bytes, which the C interface lends, are grades.
 ghost use Rattle.std.specs.Prelude.{◌≡◌};
 ghost use Rattle.grades.specs.Grades.{cap, compose, join, closure, assert_atomic, lock_taken};
 
@@ -12,29 +13,27 @@ const COMPOSITION: [[u8; 5]; 5] = [
 ];
 
 // The grade that a number counts as.
+#[tactic(auto, unfolding(crate::specs::Grades::cap))]
 pub fn grade_of(number: u8) -> u8
     ensures { result ≡ cap number }
 {
-    if number < 4 { number } else { 4 }
+    number.min(4)
 }
 
 pub fn compose(first: u8, second: u8) -> u8
     ensures { result ≡ compose first second }
 {
-    let row = grade_of(first) as usize;
-    let column = grade_of(second) as usize;
+    let row = usize::from(grade_of(first));
+    let column = usize::from(grade_of(second));
     COMPOSITION[row][column]
 }
 
 // The larger of two grades.
+#[tactic(auto, unfolding(crate::specs::Grades::cap, crate::specs::Grades::join))]
 pub fn join(one: u8, other: u8) -> u8
     ensures { result ≡ join one other }
 {
-    if one < other {
-        grade_of(other)
-    } else {
-        grade_of(one)
-    }
+    grade_of(one.max(other))
 }
 
 // A step that is repeated: atomic becomes cmpd, every other grade stays.

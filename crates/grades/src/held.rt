@@ -5,18 +5,14 @@ ghost use Rattle.grades.specs.HeldSets.{mask_names, held, add_within};
 // How many names a mask carries.
 pub const NAMES: u8 = 8;
 
-// FF, where a caller has no constant name for a lock. It is the FF of `frames::layout`, as a byte.
+// FF, where a caller has no constant name for a lock. It is the FF of `frames::layout`, as a byte: neither crate knows the other.
 pub const NO_NAME: u8 = 255;
 
 // Whether a name is in the set. FF, and any other number that the mask has no bit for, is in no set.
 pub fn holds(set: u8, name: u8) -> bool
     ensures { result ≡ held set name }
 {
-    if name < NAMES {
-        (set >> name) & 1 == 1
-    } else {
-        false
-    }
+    name < NAMES && (set >> name) & 1 == 1
 }
 
 // The set with a name added. A number that the mask has no bit for adds nothing.

@@ -1,15 +1,14 @@
 -- A reader that is moved past each frame gives out the frames of the text's lines, each once and in order, with its line number, and then
 -- the end.
 -- Assumes nothing.
-use Rattle.std.specs.Prelude.{ℕ, zero, suc, ◌+◌, ◌^◌, ◌<◌, ◌≤◌, ◌≡◌, refl, List, [], length, get_or, drop}
+use Rattle.std.specs.Prelude.{ℕ, zero, suc, ◌+◌, ◌^◌, ◌<◌, ◌≤◌, ◌≡◌, refl, List, [], length, get_or, drop, Some, None}
 use Rattle.std.proofs.Common.{sym, ap, ◌∙◌, ⊎_elim, arith, length-drop, drop_of_length-le, lt-ltb}
 use Rattle.lines.specs.Lines.{lines, frame_length}
 use Rattle.lines.specs.Places.{past_line}
 use Rattle.lines.specs.Laws.Places.{past-line-at}
 use Rattle.lines.specs.declared.Place.{Place}
-use Rattle.lines.specs.Reader.{start, frame_at}
+use Rattle.lines.specs.Reader.{start, found, frame_at}
 use Rattle.lines.specs.Laws.Reader.{at-end}
-use Rattle.lines.specs.declared.Found.TheVariants.{Frame, End}
 use Rattle.lines.specs.Laws.Lines.{line_at}
 use Rattle.counting.specs.Laws.Tests.{lt-or-le}
 
@@ -39,12 +38,12 @@ left t (suc n) l =
     ∙ ((line_at t (lines t) (after t n).at n h e).rest ∙ ap (λ (k : ℕ). drop k (lines t)) one)
 
 -- frame n is that of line n, both counted from 0
-pub in_order : (t : List ℕ) (n : ℕ) → n < length (lines t) → frame_at t (after t n) ≡ Frame (after t n) (frame_length (get_or (lines t) n [])) (after t (suc n))
+pub in_order : (t : List ℕ) (n : ℕ) → n < length (lines t) → frame_at t (after t n) ≡ Some (found (after t n) (frame_length (get_or (lines t) n [])) (after t (suc n)))
 unfolding frame_at after
 in_order t n l =
     let e = left t n (omega arith) in
     let h = more t (after t n).at n e l in
-    rw (lt-ltb (after t n).at (length t) h) (ap (λ (k : List ℕ). Frame (after t n) (frame_length k) (past_line t (after t n))) (line_at t (lines t) (after t n).at n h e).its)
+    rw (lt-ltb (after t n).at (length t) h) (ap (λ (k : List ℕ). Some (found (after t n) (frame_length k) (past_line t (after t n)))) (line_at t (lines t) (after t n).at n h e).its)
 
 -- its line number counts from 1
 pub counted : (t : List ℕ) (n : ℕ) → n < length (lines t) → n + 1 < 2 ^ 64 → (after t n).line ≡ n + 1
@@ -55,7 +54,7 @@ counted t (suc n) l f =
     rw (lt-ltb (after t n).at (length t) (more t (after t n).at n (left t n (omega arith)) (omega arith))) (omega arith)
 
 -- after the last line there is the end
-pub ends : (t : List ℕ) → frame_at t (after t (length (lines t))) ≡ End
+pub ends : (t : List ℕ) → frame_at t (after t (length (lines t))) ≡ None
 ends t =
     let n = length (lines t) in
     let p = after t n in

@@ -1,6 +1,5 @@
 // Lines of digits, places in a text, and the reader: a lent text and the place reached in it, together in one record, which gives out the next
-// frame (document 01, "Frames"). The borrow checker covers no function over a record that holds a reference, so those are few, each proved by a walk of
-// its own. The work stands in `frame_at`, over a plain slice and the place's two numbers.
+// frame (document 01, "Frames"). The work stands in `frame_at`, over a plain slice and the place.
 #![tactic(auto)]
 
 mod lines;
@@ -17,76 +16,67 @@ pub struct Place {
     pub line: usize,
 }
 
-// The text, how many of its bytes stand before the place reached, and the number of the line there, from 1.
-#[derive(Drop)]
+// The text, and the place reached in it.
+#[derive(Clone, Copy)]
 pub struct Reader<'a> {
     pub text: &'a [u8],
-    pub at: usize,
-    pub line: usize,
+    pub place: Place,
 }
 
-// What stands at a place: the frame of a line, of so many bytes from the place on (none if the line is malformed), and the place after
-// it; or the text's end.
-#[derive(Drop)]
-pub enum Found {
-    Frame {
-        place: Place,
-        bytes: usize,
-        after: Place,
-    },
-    End,
+// The frame of a line: where the line stands, how many bytes it has (0 if it is malformed), and the place after it.
+#[derive(Clone, Copy)]
+pub struct Frame {
+    pub place: Place,
+    pub bytes: usize,
+    pub after: Place,
 }
 
-// What stands at a place of a text.
-pub fn frame_at(text: &[u8], at: usize, line: usize) -> Found
-    ensures { result ≡ frame_at text.now (record { at = at; line = line }) }
+// What stands at a place of a text; none at its end.
+pub fn frame_at(text: &[u8], place: Place) -> Option<Frame>
+    ensures { result ≡ frame_at text.now place }
 {
-    if text.len() <= at {
-        return Found::End;
+    if text.len() <= place.at {
+        return None;
     }
-    let place = Place { at: at, line: line };
     let after = place.past_line(text);
     let end = after.at;
-    let bytes = frame_length(&text[at..end]);
-    Found::Frame {
-        place: place,
-        bytes: bytes,
-        after: after,
-    }
-}
-
-// The whole text, before its first line.
-pub fn new<'a>(text: &'a [u8]) -> Reader<'a>
-    ensures { result ≡ opened text.entry }
-{
-    Reader {
-        text,
-        at: 0,
-        line: 1,
-    }
-}
-
-// The next frame: what stands at the place reached.
-pub fn next<'a>(reader: Reader<'a>) -> Found
-    ensures { result ≡ next_frame reader.entry }
-{
-    frame_at(reader.text, reader.at, reader.line)
-}
-
-// The same text at another place: past a frame, that is the place after it.
-pub fn moved<'a>(reader: Reader<'a>, at: usize, line: usize) -> Reader<'a>
-    ensures { result ≡ moved_to reader.entry (record { at = at; line = line }) }
-{
-    Reader {
-        text: reader.text,
-        at,
-        line,
-    }
+    let bytes = frame_length(&text[place.at..end]);
+    Some(Frame {
+        place,
+        bytes,
+        after,
+    })
 }
 
 // The first frame of a text.
-pub fn first(text: &[u8]) -> Found
+pub fn first(text: &[u8]) -> Option<Frame>
     ensures { result ≡ frame_at text.now start }
 {
-    next(new(text))
+    Reader::new(text).next()
+}
+
+impl<'a> Reader<'a> {
+    // The whole text, before its first line.
+    pub fn new(text: &'a [u8]) -> Reader<'a>
+        ensures { result ≡ opened text.entry }
+    {
+        Reader {
+            text,
+            place: Place { at: 0, line: 1 },
+        }
+    }
+
+    // The next frame: what stands at the place reached.
+    pub fn next(self) -> Option<Frame>
+        ensures { result ≡ next_frame self.entry }
+    {
+        frame_at(self.text, self.place)
+    }
+
+    // The same text at another place: past a frame, that is the place after it.
+    pub fn moved(self, place: Place) -> Reader<'a>
+        ensures { result ≡ moved_to self.entry place }
+    {
+        Reader { place, ..self }
+    }
 }

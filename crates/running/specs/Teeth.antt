@@ -4,7 +4,7 @@
 -- `Cases` of `meaning` writes them. Proved in `Laws.TeethTorn` (torn, torn_wide), `Laws.TeethRuns` (undisciplined, stub) and `Laws.TeethStill`
 -- (standing_still).
 -- Assumes nothing.
-use Rattle.std.specs.Prelude.{ℕ, zero, suc, ◌+◌, ◌/◌, ◌%◌, ◌^◌, Bool, true, false, cond, List, [], ◌∷◌, ◌⊎◌, ◌≡◌, eqb, ltb, replicate}
+use Rattle.std.specs.Prelude.{ℕ, zero, suc, ◌+◌, ◌/◌, ◌%◌, ◌^◌, Bool, true, false, cond, List, [], ◌∷◌, ◌⊎◌, ◌≡◌, eqb, ltb, replicate, IsOk}
 use Rattle.grades.specs.Grades.{atomic, cmpd}
 use Rattle.grades.specs.HeldSets.{no_name}
 use Rattle.frames.specs.Program.{Node, Method, Program, method_at}
@@ -12,7 +12,6 @@ use Rattle.lines.specs.Lines.{lines}
 use Rattle.frames.specs.Frames.{frames_of}
 use Rattle.frames.specs.Tables.{program_of}
 use Rattle.frames.specs.Reading.{read_text}
-use Rattle.frames.specs.declared.Outcome.TheVariants as Outcome
 use Rattle.meaning.specs.Meaning.{Assignment}
 use Rattle.meaning.specs.Lowest.{declared_table}
 use Rattle.meaning.specs.Constraints.{accepted, refused, entry_of, answer}
@@ -36,7 +35,7 @@ text_of (l ∷ ls) = digits l.0 l.1 (0x0A ∷ text_of ls)
 
 -- a text without a fault, and the program that it reads as
 pub record Reads (text : List Line) (p : Program) : Type 0 where
-  pub whole : (read_text (text_of text)).outcome ≡ Outcome.Whole
+  pub whole : IsOk (read_text (text_of text))
   pub program : program_of (frames_of (lines (text_of text))) ≡ p
 
 -- nodes and methods as a text has them: four names, and a table of zeros where nothing is declared

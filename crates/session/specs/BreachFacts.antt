@@ -1,6 +1,6 @@
 -- What a breach says is true: the body of a declared method is graded higher than declared, at one of its held sets.
 -- Assumes nothing.
-use Rattle.std.specs.Prelude.{ℕ, ◌≤◌, ◌<◌, List, ◌∷◌, ◌≡◌, T, eqb, length, replicate}
+use Rattle.std.specs.Prelude.{ℕ, ◌≤◌, ◌<◌, List, ◌∷◌, ◌≡◌, T, eqb, length, replicate, Ok}
 use Rattle.std.proofs.Common.{ap, subst, arith}
 use Rattle.std.proofs.Math.Dec.{nleb→lt}
 use Rattle.std.proofs.lemmas.List.{length-replicate}
@@ -8,8 +8,7 @@ use Rattle.grades.specs.Grades.{error}
 use Rattle.frames.specs.Program.{Program, method_at}
 use Rattle.frames.specs.Promises.{read-exactly}
 use Rattle.frames.specs.Reading.{read_text}
-use Rattle.frames.specs.declared.Checked.{Checked}
-use Rattle.frames.specs.declared.Outcome.TheVariants.{Whole}
+use Rattle.frames.specs.declared.Tables.{Tables}
 use Rattle.meaning.specs.Meaning.{root_table}
 use Rattle.meaning.proofs.Laws.Meaning.{root-error}
 use Rattle.counting.specs.Counting.{All, up_to, only_if}
@@ -17,11 +16,9 @@ use Rattle.counting.specs.Laws.Counting.{all_append, all_right, all-together, al
 use Rattle.meaning.specs.Lowest.{method_count, is_declared, declared_table, lowest}
 use Rattle.meaning.specs.Constraints.{Entry, Closed, declared_root, main_table, forked_table, method_of, kind_of, fork_at, forks_of, closed_of, closed_of_all, closed, refused, answer, FirstBroken}
 use Rattle.meaning.proofs.Laws.Answers.{when-refused}
-use Rattle.checker.specs.Grading.{program_read, verdict_of, numbers_of}
+use Rattle.checker.specs.Grading.{Verdict, program_read, verdict_of, broken_at, numbers_of}
 use Rattle.checker.specs.Demand1.{Case}
 use Rattle.checker.proofs.Demand1.{demand-1}
-use Rattle.checker.specs.declared.Verdict.{Verdict}
-use Rattle.checker.specs.declared.Verdict.TheVariants.{Broken}
 use Rattle.session.specs.Breach.{breach_frame, breach_by, breach_of}
 use Rattle.session.specs.SessionFacts.{session-numbers}
 use Rattle.session.specs.Writing.{line_of}
@@ -37,7 +34,8 @@ pub record Breaks (p : Program) (m H : ℕ) : Type 0 where
 
 -- the text reads, its program has such a method, and each number has room in its byte
 pub record Breach (text : List ℕ) (m H : ℕ) : Type 0 where
-  pub reads : (read_text text).outcome ≡ Whole
+  pub tables : Tables
+  pub reads : read_text text ≡ Ok tables
   pub breaks : Breaks (program_read text) m H
   pub method : m < 256
   pub set : H < 256
@@ -81,13 +79,14 @@ breaks p m n H e = let r = when-refused p m 1 n H e in go r.constraint r.first r
     go (forked_table i j) f k is = absurd (omega arith)
 
 -- of every text that is refused by 7 with kind 1
-pub breach-true : (text : List ℕ) (m n H : ℕ) → verdict_of text answer_length ≡ Broken m 1 n H → Breach text m H
+pub breach-true : (text : List ℕ) (m n H : ℕ) → verdict_of text answer_length ≡ broken_at m 1 n H → Breach text m H
 breach-true text m n H e =
     let given = subst (λ (i : ℕ). Case text i (verdict_of text i)) (length-replicate {A = ℕ} answer_length 0) (demand-1 text (replicate answer_length 0)).given in
-    let broken : Case text answer_length (Broken m 1 n H) = subst (Case text answer_length) e given in
+    let broken : Case text answer_length (broken_at m 1 n H) = subst (Case text answer_length) e given in
     let small = subst (λ (v : Verdict). ((numbers_of v).method < 256) × ((numbers_of v).set < 256)) e ((session-numbers text).method, (session-numbers text).set) in
     record {
-      reads = ap (λ (c : Checked). c.outcome) (read-exactly text broken.0.short broken.0.lines);
+      tables = _;
+      reads = read-exactly text broken.0.short broken.0.lines;
       breaks = breaks (program_read text) m n H broken.1;
       method = small.0;
       set = small.1;
@@ -95,6 +94,6 @@ breach-true text m n H e =
     }
 
 -- whose breach is what is printed
-pub breach-line : (text : List ℕ) (m n H : ℕ) → verdict_of text answer_length ≡ Broken m 1 n H → breach_of text ≡ line_of (breach_frame (program_read text) m H)
+pub breach-line : (text : List ℕ) (m n H : ℕ) → verdict_of text answer_length ≡ broken_at m 1 n H → breach_of text ≡ line_of (breach_frame (program_read text) m H)
 unfolding breach_of
 breach-line text m n H e = ap (λ (v : Verdict). breach_by v (program_read text)) e

@@ -1,4 +1,4 @@
--- What the grading program prints for a text: `Writing` (a frame as a line), `Session`, `Page` (bytes put into a buffer); `SessionFacts` says what holds of
+-- What the grading program prints for a text: `Writing` (a frame as a line), `Session`, `Page` (a page handed out); `SessionFacts` says what holds of
 -- every session.
 pub mod Writing
 pub mod Session

@@ -1,11 +1,10 @@
 -- Document 01's "One whole session": what the grading program prints for a text.
 -- Assumes nothing.
-use Rattle.std.specs.Prelude.{ℕ, zero, suc, ◌+◌, ◌*◌, ◌^◌, List, [], ◌∷◌, ◌++◌, take, drop, replicate}
+use Rattle.std.specs.Prelude.{ℕ, zero, suc, ◌+◌, ◌*◌, ◌^◌, List, [], ◌∷◌, ◌++◌, take, drop, replicate, Ok, Err}
 use Rattle.frames.specs.Layout.{layout, answer_length}
 use Rattle.frames.specs.Program.{Program, method_at}
-use Rattle.checker.specs.Grading.{program_read, verdict_of, answer_of, Numbers, numbers_of}
-use Rattle.checker.specs.declared.Verdict.{Verdict}
-use Rattle.checker.specs.declared.Verdict.TheVariants.{Accepted, WrongLength, Overlong, Malformed, Misplaced, OutOfRange, Unlinked, Broken}
+use Rattle.checker.specs.Grading.{Verdict, program_read, verdict_of, answer_of, numbers_of}
+use Rattle.checker.specs.declared.numbers.Numbers.{Numbers}
 use Rattle.session.specs.Writing.{line_of, high, low}
 
 -- "the answer frame (10, methods, rounds in two bytes)"
@@ -32,14 +31,8 @@ refusal_frame n =
 
 -- of a verdict, the program that was graded, and the answer
 abbrev pub session_by : Verdict → Program → (answer : List ℕ) → List ℕ
-session_by (Accepted methods rounds) p answer = line_of (answer_frame methods rounds) ++ method_lines p answer methods
-session_by WrongLength p answer = line_of (refusal_frame (numbers_of WrongLength))
-session_by Overlong p answer = line_of (refusal_frame (numbers_of Overlong))
-session_by (Malformed line) p answer = line_of (refusal_frame (numbers_of (Malformed line)))
-session_by (Misplaced line) p answer = line_of (refusal_frame (numbers_of (Misplaced line)))
-session_by (OutOfRange line) p answer = line_of (refusal_frame (numbers_of (OutOfRange line)))
-session_by (Unlinked line) p answer = line_of (refusal_frame (numbers_of (Unlinked line)))
-session_by (Broken method kind node set) p answer = line_of (refusal_frame (numbers_of (Broken method kind node set)))
+session_by (Ok a) p answer = line_of (answer_frame a.methods a.rounds) ++ method_lines p answer a.methods
+session_by (Err refusal) p answer = line_of (refusal_frame (numbers_of (Err refusal)))
 
 -- the program lends an answer of the right length, all 0, so that refusal 1 is never printed
 unfoldable pub session_of : (text : List ℕ) → List ℕ

@@ -1,7 +1,7 @@
 -- What holds of every session: its contract leaves one outcome; the grades printed are the answer's tables; every number printed is the
 -- verdict's own, since none is too large for its bytes.
 -- Assumes nothing.
-use Rattle.std.specs.Prelude.{ℕ, suc, ◌*◌, ◌-◌, ◌^◌, ◌≤◌, ◌<◌, ◌≡◌, Bool, true, false, cond, List, [], ◌∷◌, ◌++◌, eqb, get_or, take, drop, replicate}
+use Rattle.std.specs.Prelude.{ℕ, suc, ◌*◌, ◌-◌, ◌^◌, ◌≤◌, ◌<◌, ◌≡◌, Bool, true, false, cond, List, [], ◌∷◌, ◌++◌, eqb, get_or, take, drop, replicate, Ok, Err}
 use Rattle.std.proofs.Common.{ap, sym, ◌∙◌, subst, length-drop, length-take-le, get_or-take, get_or-drop, ext_get_or}
 use Rattle.std.proofs.Math.Path.{subst⁻¹}
 use Rattle.std.proofs.Math.Logic.{⊎_elim}
@@ -16,9 +16,9 @@ use Rattle.frames.specs.Tables.{program_of}
 use Rattle.frames.specs.Promises.{tables-stand, read-well-formed, read-exactly}
 use Rattle.frames.specs.Reading.{read_text}
 use Rattle.frames.specs.WellFormed.{WellFormed}
-use Rattle.frames.specs.declared.Checked.{Checked}
 use Rattle.frames.specs.declared.Fault.{Fault}
-use Rattle.frames.specs.declared.Outcome.TheVariants as Outcome
+use Rattle.frames.specs.declared.Tables.{Tables}
+use Rattle.frames.specs.declared.Refusal.TheVariants.{Overlong, Malformed, Misplaced, OutOfRange, Unlinked}
 use Rattle.grades.specs.HeldSets.{entries}
 use Rattle.meaning.specs.Lowest.{method_count, entry_count, is_declared, rounds, lowest}
 use Rattle.meaning.specs.Constraints.{Closed, declared_root, main_table, forked_table, method_of, kind_of, node_of, sets_of, fork_at, forks_of, closed_of, closed_of_all, closed, named_method, Answer, accepted, refused, answer, entry_of}
@@ -29,12 +29,12 @@ use Rattle.solver.specs.Flat.{flat}
 use Rattle.solver.specs.Laws.Room.{room_fits}
 use Rattle.solver.specs.Laws.Rounds.{rounds-few}
 use Rattle.solver.specs.Laws.Flat.{flat-entry, flat-length}
-use Rattle.checker.specs.Grading.{program_read, verdict_of, answer_of, bytes_by_answer, Numbers, line_refused, numbers_of}
+use Rattle.checker.specs.Grading.{Verdict, program_read, verdict_of, broken_at, answer_of, bytes_by_answer, line_refused, numbers_of}
+use Rattle.checker.specs.declared.numbers.Numbers.{Numbers}
 use Rattle.checker.proofs.Laws.Grading.{right-bytes, read-room}
 use Rattle.checker.specs.Demand1.{Gradable, Faulty, Case}
 use Rattle.checker.proofs.Demand1.{demand-1}
-use Rattle.checker.specs.declared.Verdict.{Verdict}
-use Rattle.checker.specs.declared.Verdict.TheVariants.{Accepted, WrongLength, Overlong, Malformed, Misplaced, OutOfRange, Unlinked, Broken}
+use Rattle.checker.specs.declared.Refusal.TheVariants.{WrongLength, Text, Broken}
 use Rattle.session.specs.Page.{printed}
 use Rattle.session.specs.Session.{grades_of, session_of}
 use Rattle.counting.specs.Laws.Tests.{lt-or-le}
@@ -49,21 +49,21 @@ session-determined text old after after' r r' e p e' p' = (e ∙ sym e', p ∙ s
 
 -- ---- the grades
 
-well-formed-read : (text : List ℕ) → (read_text text).outcome ≡ Outcome.Whole → WellFormed (program_read text)
-well-formed-read text e = subst (λ (p : Program). WellFormed p) (ap program_of (tables-stand text e)) (read-well-formed text e)
+well-formed-read : (text : List ℕ) (T : Tables) → read_text text ≡ Ok T → WellFormed (program_read text)
+well-formed-read text T e = subst (λ (p : Program). WellFormed p) (ap program_of (tables-stand text T e)) (read-well-formed text T e)
 
 -- of an accepted text, the grades printed for method m are its table
-pub session-grades : (text old : List ℕ) (rounds : ℕ) (tables : List (List ℕ)) (m : ℕ)
-    → length old ≡ answer_length → (read_text text).outcome ≡ Outcome.Whole → answer (program_read text) ≡ accepted rounds tables
+pub session-grades : (text old : List ℕ) (T : Tables) (rounds : ℕ) (tables : List (List ℕ)) (m : ℕ)
+    → length old ≡ answer_length → read_text text ≡ Ok T → answer (program_read text) ≡ accepted rounds tables
     → m < method_count (program_read text)
     → grades_of (answer_of text old) m (method_at (program_read text) m).k ≡ get_or tables m []
 unfolding grades_of method_count entry_count entries method_at no_method entry_of
-session-grades text old rounds tables m long whole is l =
+session-grades text old T rounds tables m long whole is l =
     let p = program_read text in
-    let w = well-formed-read text whole in
+    let w = well-formed-read text T whole in
     let k = (method_at p m).k in
     let few : 2 ^ k ≤ layout.grades = pow_mono (w.methods m l).names in
-    let bytes : answer_of text old ≡ flat (entry_of tables) = right-bytes text old Outcome.Whole long whole ∙ ap (λ (x : Answer). bytes_by_answer x old) is in
+    let bytes : answer_of text old ≡ flat (entry_of tables) = right-bytes text old (Ok T) long whole ∙ ap (λ (x : Answer). bytes_by_answer x old) is in
     let size : length (get_or tables m []) ≡ 2 ^ k = ap (λ (t : List (List ℕ)). length (get_or t m [])) (when-accepted p rounds tables is).tables ∙ table-length p (lowest p) m l in
     let here : length (drop (layout.grades * m) (flat (entry_of tables))) ≡ answer_length - layout.grades * m = length-drop (layout.grades * m) (flat (entry_of tables)) ∙ ap (λ (n : ℕ). n - layout.grades * m) (flat-length (entry_of tables)) in
     let taken : length (take (2 ^ k) (drop (layout.grades * m) (flat (entry_of tables)))) ≡ 2 ^ k = length-take-le (2 ^ k) _ (omega (arith, w.few_methods)) in
@@ -105,8 +105,8 @@ module _ (text : List ℕ) where
       let few = lines-few text in
       ⊎_elim (λ w. omega (arith, few, f.short, f.follows, w.0)) (λ w. omega (arith, few, f.short, f.follows, w.0)) f.first.here
 
-  whole : Gradable text answer_length → (read_text text).outcome ≡ Outcome.Whole
-  whole s = ap (λ (c : Checked). c.outcome) (read-exactly text s.short s.lines)
+  whole : Gradable text answer_length → (T : Tables) × (read_text text ≡ Ok T)
+  whole s = (_, read-exactly text s.short s.lines)
 
   entries-few : WellFormed (program_read text) → (m : ℕ) → entry_count (program_read text) m ≤ layout.grades
   unfolding entry_count entries method_at no_method
@@ -138,7 +138,7 @@ module _ (text : List ℕ) where
   named : WellFormed (program_read text) → (c : Closed) (before behind : List Closed) → closed (program_read text) ≡ before ++ (c ∷ behind) → Named c
   named w c before behind e = (all_right Named before (c ∷ behind) (subst (All Named) e (all_named w))).0
 
-  broken-small : (m k n H : ℕ) → WellFormed (program_read text) → answer (program_read text) ≡ refused m k n H → Small (numbers_of (Broken m k n H))
+  broken-small : (m k n H : ℕ) → WellFormed (program_read text) → answer (program_read text) ≡ refused m k n H → Small (numbers_of (broken_at m k n H))
   unfolding Named
   broken-small m k n H w e =
       let r = when-refused (program_read text) m k n H e in
@@ -154,10 +154,10 @@ module _ (text : List ℕ) where
         rounds = omega arith;
       }
 
-  rounds-small : (read_text text).outcome ≡ Outcome.Whole → rounds (program_read text) ≤ 4096
-  rounds-small e =
-      subst (λ (p : Program). rounds p ≤ 4096) (ap program_of (tables-stand text e))
-      (rounds-few (read_text text).tables.bytes (room_fits (read_text text).tables.bytes (read-room text e)))
+  rounds-small : (T : Tables) → read_text text ≡ Ok T → rounds (program_read text) ≤ 4096
+  rounds-small T e =
+      subst (λ (p : Program). rounds p ≤ 4096) (ap program_of (tables-stand text T e))
+      (rounds-few T.bytes (room_fits T.bytes (read-room text T e)))
 
   line-numbers : (number line : ℕ) → line < 65536 → Small (line_refused number line)
   line-numbers number line h =
@@ -165,19 +165,19 @@ module _ (text : List ℕ) where
 
   case-small : (v : Verdict) → Case text answer_length v → Small (numbers_of v)
   unfolding method_count
-  case-small (Accepted methods r) c =
-      let e = whole c.0 in
-      let few = (well-formed-read text e).few_methods in
-      let bound = rounds-small e in
-      let is = (when-accepted (program_read text) r c.1.0 c.1.1).rounds in
+  case-small (Ok a) c =
+      let (T, e) = whole c.0 in
+      let few = (well-formed-read text T e).few_methods in
+      let bound = rounds-small T e in
+      let is = (when-accepted (program_read text) a.rounds c.1.0 c.1.1).rounds in
       record { line = omega arith; method = omega arith; kind = omega arith; node = omega arith; set = omega arith; methods = omega (arith, c.2, few); rounds = omega (arith, is, bound) }
-  case-small WrongLength c = line-numbers 1 0 (omega arith)
-  case-small Overlong c = line-numbers 2 0 (omega arith)
-  case-small (Malformed line) c = line-numbers 3 line (line_small _ line c)
-  case-small (Misplaced line) c = line-numbers 4 line (line_small _ line c)
-  case-small (OutOfRange line) c = line-numbers 5 line (line_small _ line c)
-  case-small (Unlinked line) c = line-numbers 6 line (line_small _ line c)
-  case-small (Broken m k n H) c = broken-small m k n H (well-formed-read text (whole c.0)) c.1
+  case-small (Err WrongLength) c = line-numbers 1 0 (omega arith)
+  case-small (Err (Text Overlong)) c = line-numbers 2 0 (omega arith)
+  case-small (Err (Text (Malformed line))) c = line-numbers 3 line (line_small _ line c)
+  case-small (Err (Text (Misplaced line))) c = line-numbers 4 line (line_small _ line c)
+  case-small (Err (Text (OutOfRange line))) c = line-numbers 5 line (line_small _ line c)
+  case-small (Err (Text (Unlinked line))) c = line-numbers 6 line (line_small _ line c)
+  case-small (Err (Broken b)) c = let (T, e) = whole c.0 in broken-small b.method b.kind b.node b.set (well-formed-read text T e) c.1
 
   -- so that no number of a session is a remainder
   pub session-numbers : Small (numbers_of (verdict_of text answer_length))

@@ -1,16 +1,33 @@
 -- A node put together from its children and its own part, which are worked out alike: the contracts of `own_grade`, `combined` and `parts_of`.
 -- Assumes nothing.
-use Rattle.std.specs.Prelude.{ℕ, Bool, true, false, not, cond, List, ◌≡◌, eqb, get_or}
+use Rattle.std.specs.Prelude.{ℕ, Bool, true, false, not, cond, List, Option, ◌≡◌, eqb, get_or, slice_get}
 use Rattle.grades.specs.Grades.{const, atomic, error, compose, join, closure, assert_atomic, lock_taken}
 use Rattle.grades.specs.HeldSets.{mask_names, held, add_within}
 use Rattle.frames.specs.Program.{Node, Program, field_at, method_at}
 use Rattle.frames.specs.Tables.{cell, node_of}
+use Rattle.frames.specs.Ops.{op_named, number_of}
+use Rattle.frames.specs.declared.ops.Op as ops
+use Rattle.frames.specs.declared.ops.Op.TheVariants.{PlainValue, Read, Write, Sequence, Choice, Loop, Synchronised, Assertion, Call, Fork, NoOp}
 use Rattle.meaning.specs.Meaning.{Assignment, Op, plain_value, read, write, sequence, choice, loop, synchronised, assertion, call, fork, no_op, op_of, children, first_name, field_access, callee_entry}
 use Rattle.solver.specs.declared.node.Parts.{Parts}
 
 -- the node in a frame
 abbrev pub node_in : List ℕ → (j : ℕ) → Node
 node_in t j = node_of (cell t j)
+
+-- the op that a name means
+abbrev pub meant : ops.Op → Op
+meant PlainValue = plain_value
+meant Read = read
+meant Write = write
+meant Sequence = sequence
+meant Choice = choice
+meant Loop = loop
+meant Synchronised = synchronised
+meant Assertion = assertion
+meant Call = call
+meant Fork = fork
+meant (NoOp n) = no_op
 
 -- a number that no child has
 abbrev pub no_child : ℕ
@@ -19,6 +36,10 @@ no_child = 65536
 -- child i of a node, if its op lists it
 unfoldable pub child_at : Node → (i : ℕ) → ℕ
 child_at node i = get_or (children node) i no_child
+
+-- the same, and nothing where its op lists fewer
+unfoldable pub listed_child : Node → (i : ℕ) → Option ℕ
+listed_child node i = slice_get (children node) i
 
 -- a node's own part; const where its op has none
 abbrev pub own_grade : Program → Assignment → Op → Node → (H : ℕ) → ℕ
@@ -54,10 +75,11 @@ mask_set op name H = cond (eqb op 6) (add_within mask_names H name) H
 
 -- what a node is put together from
 pub record PartsOf (p : Program) (a : Assignment) (node : Node) (H : ℕ) (r : Parts) : Type 0 where
-  pub op : r.op ≡ node.op
+  pub op : r.op ≡ op_named node.op
+  pub number : number_of r.op ≡ node.op
   pub newly : r.newly ≡ not (held H (first_name node.names))
   pub under : r.under ≡ mask_set node.op (first_name node.names) H
-  pub x : r.x ≡ child_at node 0
-  pub y : r.y ≡ child_at node 1
-  pub z : r.z ≡ child_at node 2
+  pub x : r.x ≡ listed_child node 0
+  pub y : r.y ≡ listed_child node 1
+  pub z : r.z ≡ listed_child node 2
   pub own : r.own ≡ own_grade p a (op_of node.op) node H

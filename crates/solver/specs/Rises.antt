@@ -1,6 +1,6 @@
 -- The rounds at which entries rise: the contract of `solve_rises`. Entries only rise, so these rounds say all tables of all rounds.
 -- Assumes nothing.
-use Rattle.std.specs.Prelude.{ℕ, suc, ◌*◌, ◌/◌, ◌%◌, Bool, true, false, cond, List, leb, replicate}
+use Rattle.std.specs.Prelude.{ℕ, suc, ◌*◌, ◌/◌, ◌%◌, Bool, true, false, cond, List, Option, Some, None, leb}
 use Rattle.counting.specs.Counting.{first, up_to, tabulate}
 use Rattle.frames.specs.Layout.{layout, answer_length}
 use Rattle.frames.specs.Program.{Program}
@@ -9,7 +9,6 @@ use Rattle.meaning.specs.Constraints.{finding}
 use Rattle.solver.specs.Flat.{program_in}
 use Rattle.solver.specs.Room.{has_room}
 use Rattle.solver.specs.declared.rises.Risen.{Risen}
-use Rattle.solver.specs.declared.constraints.Finding.TheVariants.{NoRoom}
 use Rattle.solver.specs.Findings.{found}
 
 -- in place of a round, where an entry never comes to a grade
@@ -36,14 +35,19 @@ rises_after p n =
 unfoldable pub rises : Program → List ℕ
 rises p = rises_after p (rounds p)
 
-abbrev pub risen_by : Bool → List ℕ → Risen
-risen_by true t =
+-- what the program that checked tables stand for comes to
+abbrev pub risen : List ℕ → Risen
+risen t =
     record {
-      finding = found (finding (program_in t) (lowest (program_in t)) (up_to (method_count (program_in t))));
+      broken = found (finding (program_in t) (lowest (program_in t)) (up_to (method_count (program_in t))));
       rounds = rounds (program_in t);
       rises = rises (program_in t);
     }
-risen_by false t = record { finding = NoRoom; rounds = 0; rises = replicate rises_length never }
 
-unfoldable pub risen_in : List ℕ → Risen
+-- none where the engine has no room for them
+abbrev pub risen_by : Bool → List ℕ → Option Risen
+risen_by true t = Some (risen t)
+risen_by false t = None
+
+unfoldable pub risen_in : List ℕ → Option Risen
 risen_in t = risen_by (has_room t) t

@@ -1,7 +1,10 @@
-// The lowest grades of a program's methods, and the first closed constraint that they break.
+// The lowest grades of a program's methods, and the first closed constraint that they break. Held sets and names are bytes: a loop's number that is one of
+// them is cast, since no `From` narrows.
 #![tactic(auto)]
 
 mod constraints;
+mod lowest;
+mod method;
 mod node;
 mod rises;
 mod room;
@@ -11,42 +14,30 @@ mod rounds;
 ghost use Rattle.std.specs.Prelude.{◌≡◌};
 ghost use Rattle.solver.specs.Solved.{solved};
 
-pub use constraints::Finding;
-use constraints::first_broken;
+pub use constraints::Broken;
 use frames::layout::ANSWER_LENGTH;
+use lowest::{Lowest, settle};
 pub use node::{Parts, combined, parts_of};
 pub use rises::{NEVER, RISES, Risen, solve_rises};
-use room::has_room;
-pub use root::{Root, lowest_root};
-use rounds::{lowest_of, starts_of};
+pub use root::lowest_root;
 
-// What checked tables come to. The grades are the lowest, also where they break a constraint.
+// What a program comes to: its first broken constraint, if there is one, and the lowest grades, also where they break a constraint.
 #[derive(Drop)]
 pub struct Solved {
-    pub finding: Finding,
+    pub broken: Option<Broken>,
     pub rounds: usize,
     pub grades: [u8; ANSWER_LENGTH],
 }
 
-// The lowest grades of the program that checked tables stand for. Tables that the engine has no room for, as no text gives them,
-// come to nothing.
-pub fn solve(tables: &[u8]) -> Solved
+// The lowest grades of the program that checked tables stand for; none of tables that the engine has no room for, as no text gives them.
+pub fn solve(tables: &[u8]) -> Option<Solved>
     ensures { result ≡ solved tables.now }
 {
-    if !has_room(tables) {
-        return Solved {
-            finding: Finding::NoRoom,
-            rounds: 0,
-            grades: [0u8; ANSWER_LENGTH],
-        };
-    }
-    let starts = starts_of(tables);
-    let lowest = lowest_of(tables, &starts);
-    let grades = lowest.grades;
-    let finding = first_broken(tables, &grades, &starts);
-    Solved {
-        finding,
-        rounds: lowest.rounds,
+    let (broken, lowest) = settle::<()>(tables)?;
+    let Lowest { rounds, grades, .. } = lowest;
+    Some(Solved {
+        broken,
+        rounds,
         grades,
-    }
+    })
 }

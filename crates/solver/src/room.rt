@@ -1,54 +1,42 @@
 // Whether the engine has room for checked tables: for their methods, their names, their nodes, and the locks of their synchronised nodes.
-ghost use Rattle.std.specs.Prelude.{◌≡◌, ◌+◌, ◌≤◌};
-ghost use Rattle.frames.specs.Layout.{layout};
-ghost use Rattle.solver.specs.Room.{names_fit, locks_fit, has_room};
+ghost use Rattle.std.specs.Prelude.{◌≡◌, ◌-◌};
+ghost use Rattle.solver.specs.Room.{names_fit, lock_fits, locks_fit, has_room};
 
+use frames::Op;
 use frames::layout::{MOST_FRAMES, MOST_METHODS, MOST_NAMES};
+use grades::held::NAMES;
 
 fn names_fit(tables: &[u8], methods: usize) -> bool
     ensures { result ≡ names_fit tables.now methods }
 {
-    let mut m = 0;
-    while m < methods {
-        if MOST_NAMES < frames::k(tables, m) {
-            return false;
-        }
-        m = m + 1;
-    }
-    true
+    (0..methods).all(|m| frames::k(tables, m) <= MOST_NAMES)
 }
 
-// Of the nodes from frame `first` on.
-fn locks_fit(tables: &[u8], first: usize, count: usize) -> bool
-    requires { first + count ≤ layout.most_frames }
-    ensures { result ≡ locks_fit tables.now first count }
+// Whether a mask has a bit for the lock of the node in frame j, if it takes one.
+fn lock_fits(tables: &[u8], j: usize) -> bool
+    ensures { result ≡ lock_fits tables.now j }
 {
-    let mut n = 0;
-    while n < count {
-        if frames::op(tables, first + n) == 6 {
-            if 8 <= frames::name(tables, first + n, 0) {
-                return false;
-            }
-        }
-        n = n + 1;
+    match frames::op_at(tables, j) {
+        Op::Synchronised => frames::name(tables, j, 0) < usize::from(NAMES),
+        _ => true,
     }
-    true
+}
+
+// Of the nodes from frame `first` up to frame `last`.
+fn locks_fit(tables: &[u8], first: usize, last: usize) -> bool
+    ensures { result ≡ locks_fit tables.now first (last - first) }
+{
+    (first..last).all(|j| lock_fits(tables, j))
 }
 
 pub(crate) fn has_room(tables: &[u8]) -> bool
     ensures { result ≡ has_room tables.now }
 {
     let methods = frames::methods(tables);
-    if MOST_METHODS < methods {
-        return false;
-    }
-    let last = frames::first_frame(tables, methods);
-    if MOST_FRAMES < last {
-        return false;
-    }
-    if !names_fit(tables, methods) {
-        return false;
-    }
     let first = frames::first_frame(tables, 0);
-    locks_fit(tables, first, last - first)
+    let last = frames::first_frame(tables, methods);
+    methods <= MOST_METHODS
+        && last <= MOST_FRAMES
+        && names_fit(tables, methods)
+        && locks_fit(tables, first, last)
 }

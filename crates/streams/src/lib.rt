@@ -1,8 +1,8 @@
-// What programs read and write. Only a read of 0 bytes ends an input: where a read fails it is unknown what else there was.
+// What programs read and write, into what is lent: nothing is allocated here either. Only a read of 0 bytes ends an input: where a read fails it is unknown what else there was.
 #![tactic(auto)]
 
 ghost use Rattle.std.specs.Io.KnownBytes.{Appends, Keeps};
-ghost use Rattle.std.specs.Prelude.{◌≡◌, ◌<◌, ◌≤◌, length, take, IsNone, IfSome, OnOk};
+ghost use Rattle.std.specs.Prelude.{◌≡◌, ◌<◌, ◌≤◌, length, take, IfOk, IfSome, MatchResult, OnOk};
 ghost use Rattle.streams.specs.Counts.{IsPrefixLen};
 
 use std::env::{Env, FillError};
@@ -10,60 +10,56 @@ use std::io::{ErrorKind, Read, Write};
 use std::rt::Files;
 use std::{fs, io, str};
 
-// What came of it: how many bytes were put at the start of the buffer, and why a read failed after them, if one did.
-#[derive(Drop)]
-pub struct Input {
+// Why a read failed, and how many bytes had been put at the start of the buffer before it.
+#[derive(Debug, Drop)]
+pub struct ReadFailed {
     pub count: usize,
-    pub failed: Option<io::Error>,
+    pub error: io::Error,
 }
 
-// Reads until the input ends, the buffer is full or a read fails, as one does that a signal interrupts. Where it is known what the
-// reader gives, and no read failed, that stands in the buffer, as far as it has room. Which bytes come from outside no contract can say.
-pub fn read_all<R: Read>(reader: &mut R, buffer: &mut [u8]) -> Input
-    ensures count { IsPrefixLen result.count buffer.new }
-    ensures whole { IsNone result.failed → IfSome (R.remaining reader.old) (λ bytes. take result.count buffer.new ≡ take (length buffer.new) bytes) }
+impl From<ReadFailed> for io::Error {
+    ghost from_gives = { λ failed error. error ≡ failed.error };
+
+    fn from(failed: ReadFailed) -> Self {
+        failed.error
+    }
+}
+
+// Reads until the input ends, the buffer is full or a read fails, as one does that a signal interrupts, and tells how many bytes were put at the
+// start of the buffer. Where it is known what the reader gives, and no read failed, that stands in the buffer, as far as it has room. Which
+// bytes come from outside no contract can say.
+pub fn read_all<R: Read>(reader: &mut R, buffer: &mut [u8]) -> Result<usize, ReadFailed>
+    ensures count { MatchResult result (λ count. IsPrefixLen count buffer.new) (λ failed. IsPrefixLen failed.count buffer.new) }
+    ensures whole { IfOk result (λ count. IfSome (R.remaining reader.old) (λ bytes. take count buffer.new ≡ take (length buffer.new) bytes)) }
 {
-    let mut done: usize = 0;
-    while done < buffer.len() {
-        let more = match reader.read(&mut buffer[done..]) {
-            Ok(more) => more,
-            Err(error) => {
-                return Input {
-                    count: done,
-                    failed: Some(error),
-                };
-            }
-        };
-        if more == 0 {
-            break;
+    let mut count: usize = 0;
+    // No `for`: how far a turn gets is for the reader to say.
+    while count < buffer.len() {
+        match reader.read(&mut buffer[count..]) {
+            Ok(0) => break,
+            Ok(more) => count += more,
+            Err(error) => return Err(ReadFailed { count, error }),
         }
-        done = done + more;
     }
-    Input {
-        count: done,
-        failed: None,
-    }
+    Ok(count)
 }
 
 // The same of the file of a name. Where it is not opened, or a read fails, standard error tells why.
-pub fn read_file<R: Files + Eprint>(rt: &R, name: &[u8], buffer: &mut [u8]) -> Input
-    ensures { IsPrefixLen result.count buffer.new }
+pub fn read_file<R: Files + Eprint>(
+    rt: &R,
+    name: &[u8],
+    buffer: &mut [u8],
+) -> Result<usize, ReadFailed>
+    ensures { MatchResult result (λ count. IsPrefixLen count buffer.new) (λ failed. IsPrefixLen failed.count buffer.new) }
 {
-    let mut file = match open(rt, name) {
-        Ok(file) => file,
-        Err(error) => {
-            tell(rt, name, error);
-            return Input {
-                count: 0,
-                failed: Some(error),
-            };
-        }
+    let read = match open(rt, name) {
+        Ok(mut file) => read_all(&mut file, buffer),
+        Err(error) => Err(ReadFailed { count: 0, error }),
     };
-    let input = read_all(&mut file, buffer);
-    if let Some(error) = input.failed {
-        tell(rt, name, error);
+    if let Err(failed) = &read {
+        tell(rt, name, failed.error);
     }
-    input
+    read
 }
 
 // Opens the file of a name. Names are UTF-8: there is no other way to a file.
@@ -107,7 +103,8 @@ pub fn argument_count<R: Env>(rt: &R) -> usize {
     usize::MAX
 }
 
-// Puts an argument at the start of the buffer, and tells its length: 0 where there is none, and where it is longer than the buffer.
+// Puts an argument at the start of the buffer, and tells its length: 0 where there is none, and where it is longer than the buffer, since no
+// caller tells these from an empty one.
 pub fn argument<R: Env>(rt: &R, i: usize, buffer: &mut [u8]) -> usize
     ensures { IsPrefixLen result buffer.new }
 {
@@ -153,9 +150,8 @@ mod tests {
     #[test]
     fn tells_of_a_failed_read(rt: HostRuntime) {
         let mut buffer = [0u8; 8];
-        let input = read_all(&mut Torn { given: false }, &mut buffer);
-        assert_eq!(rt; input.count, 2);
-        assert!(rt; input.failed.is_some());
+        let read = read_all(&mut Torn { given: false }, &mut buffer);
+        assert_eq!(rt; read.map_err(|failed| failed.count).err(), Some(2));
         assert_eq!(rt; &buffer[..2], b"ab".as_slice());
     }
 
@@ -163,11 +159,9 @@ mod tests {
     fn reads_to_the_end_or_as_far_as_there_is_room(rt: HostRuntime) {
         let mut buffer = [0u8; 3];
         let whole = read_all(&mut b"ab".as_slice(), &mut buffer);
-        assert_eq!(rt; whole.count, 2);
-        assert!(rt; whole.failed.is_none());
+        assert_eq!(rt; whole.ok(), Some(2));
         let full = read_all(&mut b"abcd".as_slice(), &mut buffer);
-        assert_eq!(rt; full.count, 3);
-        assert!(rt; full.failed.is_none());
+        assert_eq!(rt; full.ok(), Some(3));
         assert_eq!(rt; &buffer[..], b"abc".as_slice());
     }
 

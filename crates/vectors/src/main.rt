@@ -5,9 +5,6 @@ use std::env::Env;
 use std::io;
 use std::rt::Files;
 
-// Room for a text. Of a longer one these bytes are enough, since it is refused for its length alone.
-const TEXT_ROOM: usize = 65536;
-
 // The longest name of a file that is read.
 const NAME_ROOM: usize = 256;
 
@@ -18,12 +15,11 @@ fn grade_text<R: Print>(rt: &R, text: &[u8]) -> io::Result<()> {
 }
 
 fn grade_file<R: Files + Print + Eprint>(rt: &R, name: &[u8]) -> io::Result<()> {
-    let mut text = [0u8; TEXT_ROOM];
-    let input = streams::read_file(rt, name, &mut text);
-    if input.failed.is_some() {
-        return Ok(());
+    let mut text = [0u8; session::FILE_ROOM];
+    match streams::read_file(rt, name, &mut text) {
+        Ok(length) => grade_text(rt, &text[..length]),
+        Err(_) => Ok(()),
     }
-    grade_text(rt, &text[..input.count])
 }
 
 fn grade_argument<R: Env + Files + Print + Eprint>(rt: &R, i: usize) -> io::Result<()> {

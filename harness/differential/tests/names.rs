@@ -5,6 +5,7 @@ use ikhzorvan::{
     rule, Refusal, Verdict, ANSWER_LEN, LONGEST_SESSION, LONGEST_TEXT, MOST_STEPS, PAGE_LEN, RECORD_LEN, STACK,
 };
 
+const FRAMES: &str = include_str!("../../../crates/frames/src/lib.rt");
 const CHECKER: &str = include_str!("../../../crates/checker/src/lib.rt");
 const EXPLAINER: &str = include_str!("../../../crates/explainer/src/asked.rt");
 const HEADER: &str = include_str!("../../../include/ikhzorvan.h");
@@ -44,11 +45,18 @@ fn cases<'a>(source: &'a str, name: &str) -> Vec<&'a str> {
     cases.map(|line| line.split(|byte: char| !byte.is_alphanumeric()).next().unwrap()).collect()
 }
 
+/// The names of a crate's refusals in Rattle. Those of a text, 2 to 6, are an enum of their own, which it holds as the case `Text`.
+fn refusals(source: &str) -> Vec<&str> {
+    let refusals = cases(source, "Refusal").into_iter();
+    refusals.flat_map(|case| if case == "Text" { cases(FRAMES, "Refusal") } else { vec![case] }).collect()
+}
+
 #[test]
 fn rattle_has_the_names_of_rust() {
-    assert_eq!(cases(CHECKER, "Verdict"), names());
+    assert!(CHECKER.contains(&format!("pub struct {} {{\n", names()[0])));
+    assert_eq!(refusals(CHECKER), names()[1..]);
     let refused = names().into_iter().skip(2).chain(of_explaining().map(|(_, name)| name));
-    assert_eq!(cases(EXPLAINER, "Reason")[1..], refused.collect::<Vec<_>>());
+    assert_eq!(refusals(EXPLAINER), refused.collect::<Vec<_>>());
 }
 
 #[test]

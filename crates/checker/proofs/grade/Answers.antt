@@ -1,22 +1,22 @@
--- `grade` meets its contract: what the lengths decide, then what the lines do.
+-- `grade` meets its contract: the answer's length decides, then what reading comes to, then what the solver finds.
 -- Assumes nothing.
-use mathlib.Core.Path.{sym}
-use lib.ListN.{length}
-use Rattle.checker.proofs.Laws.Grading.{by_length_lem, wrong-verdict, wrong-bytes, over-verdict, over-bytes}
+use mathlib.Core.Path.{sym, ◌∙◌}
+use Rattle.std.proofs.lemmas.Result.{err_from_is_err_and}
+use Rattle.checker.proofs.Laws.Grading.{right-verdict, right-bytes, read-room, read-verdict, read-bytes}
 use Rattle.checker.proofs.grade.Goals as goal
 
-pub returns-then-refused-eq1 : goal.returns-then-refused-eq1
-returns-then-refused-eq1 c = let a = c.args in
-    let wrong = (by_length_lem (length a.answer.now) (length a.text.now) c.by_length-refused.result c.by_length-refused.ensures).one c.if-refused-eq1.true in
-    record { value = sym (wrong-verdict a.text.now (length a.answer.now) wrong); answer_after = sym (wrong-bytes a.text.now a.answer.now wrong) }
+pub returns-in_err-tables-clause-value : goal.returns-in_err-tables-clause-value
+returns-in_err-tables-clause-value c = let p = err_from_is_err_and c.from_residual.result c.from_residual.ensures.1 in
+    rw (p.1, p.2) (sym (right-verdict _ _ _ c.if-answer-ne-ANSWER_LENGTH.false (sym c.read.ensures ∙ c.in_err-tables.was)))
 
-pub returns-then-refused-eq2 : goal.returns-then-refused-eq2
-returns-then-refused-eq2 c = let a = c.args in
-    let facts = by_length_lem (length a.answer.now) (length a.text.now) c.by_length-refused.result c.by_length-refused.ensures in
-    let right = facts.right c.if-refused-eq1.false in
-    let over = facts.two c.if-refused-eq2.true in
-    record { value = sym (over-verdict a.text.now (length a.answer.now) right over); answer_after = sym (over-bytes a.text.now a.answer.now right over) }
+pub returns-in_err-tables-clause-answer_after : goal.returns-in_err-tables-clause-answer_after
+returns-in_err-tables-clause-answer_after c = sym (right-bytes _ _ _ c.if-answer-ne-ANSWER_LENGTH.false (sym c.read.ensures ∙ c.in_err-tables.was))
 
-pub by_lines-requires : goal.by_lines-requires
-by_lines-requires c = let a = c.args in
-    (by_length_lem (length a.answer.now) (length a.text.now) c.by_length-refused.result c.by_length-refused.ensures).right c.if-refused-eq1.false
+pub solved-requires : goal.solved-requires
+solved-requires c = (c.if-answer-ne-ANSWER_LENGTH.false, read-room _ _ (sym c.read.ensures ∙ c.in_ok-tables.was))
+
+pub returns-clause-value : goal.returns-clause-value
+returns-clause-value c = c.solved.ensures.value ∙ read-verdict _ _ (sym c.read.ensures ∙ c.in_ok-tables.was) _ c.if-answer-ne-ANSWER_LENGTH.false
+
+pub returns-clause-answer_after : goal.returns-clause-answer_after
+returns-clause-answer_after c = c.solved.ensures.answer_after ∙ read-bytes _ _ (sym c.read.ensures ∙ c.in_ok-tables.was) _ c.if-answer-ne-ANSWER_LENGTH.false

@@ -1,23 +1,22 @@
 -- `checker::solved` meets its contract: what the solver hands over is the answer of `meaning`.
 -- Assumes nothing.
-use mathlib.Core.Path.{◌∙◌}
-use Rattle.checker.proofs.Laws.Solved.{has_room_lem, accepted-verdict, accepted-bytes, broken-verdict, broken-bytes}
+use Rattle.std.specs.Prelude.{Option, is_some}
+use mathlib.Core.Path.{sym, ap, ◌∙◌}
+use Rattle.solver.specs.declared.Solved.{Solved}
+use Rattle.checker.proofs.Laws.Solved.{is-solved, accepted-verdict, accepted-bytes, broken-verdict, broken-bytes}
 use Rattle.checker.proofs.solved.Goals as goal
 
-pub returns-in-Met : goal.returns-in-Met
-returns-in-Met c = let a = c.args in
-    let t = a.tables.now in
-    let solve = c.solve-solution in
-    let room = c.requires.1 in
-    let met = c.in-Met.is in record { value = accepted-verdict t room solve.result solve.ensures met c.methods.result c.methods.ensures.is; answer_after = c.fill.ensures ∙ accepted-bytes t room solve.result solve.ensures met a.answer.now }
+pub unwrap-solution-requires : goal.unwrap-solution-requires
+unwrap-solution-requires c = ap (λ (s : Option Solved). is_some s) (c.solve.ensures ∙ is-solved c.args.tables.now c.requires.1)
 
-pub returns-in-Broken : goal.returns-in-Broken
-returns-in-Broken c = let a = c.args in
-    let t = a.tables.now in
-    let solve = c.solve-solution in
-    let room = c.requires.1 in
-    let x = c.in-Broken in record { value = broken-verdict t room solve.result solve.ensures x.method x.kind x.node x.set x.is; answer_after = broken-bytes t room solve.result solve.ensures x.method x.kind x.node x.set x.is a.answer.now }
+pub returns-in-Some-clause-value : goal.returns-in-Some-clause-value
+returns-in-Some-clause-value c = broken-verdict c.args.tables.now c.requires.1 _ (sym c.unwrap-solution.ensures ∙ c.solve.ensures) _ c.in-Some.is
 
-pub returns-in-NoRoom : goal.returns-in-NoRoom
-returns-in-NoRoom c = let solve = c.solve-solution in
-    absurd (has_room_lem c.args.tables.now c.requires.1 solve.result solve.ensures c.in-NoRoom.is)
+pub returns-in-Some-clause-answer_after : goal.returns-in-Some-clause-answer_after
+returns-in-Some-clause-answer_after c = broken-bytes c.args.tables.now c.requires.1 _ (sym c.unwrap-solution.ensures ∙ c.solve.ensures) _ c.in-Some.is _
+
+pub returns-clause-value : goal.returns-clause-value
+returns-clause-value c = accepted-verdict c.args.tables.now c.requires.1 _ (sym c.unwrap-solution.ensures ∙ c.solve.ensures) c.in_default.is _ c.methods.ensures.is
+
+pub returns-clause-answer_after : goal.returns-clause-answer_after
+returns-clause-answer_after c = c.copy_from_slice.ensures.after ∙ accepted-bytes c.args.tables.now c.requires.1 _ (sym c.unwrap-solution.ensures ∙ c.solve.ensures) c.in_default.is _

@@ -1,16 +1,10 @@
--- What the call's steps come to: the lengths, and what follows where a text was read.
+-- What the call's steps come to where a text was read.
 -- Assumes nothing.
-use Rattle.std.specs.Prelude.{ℕ, cond, List, eqb, ltb}
-use Rattle.frames.specs.Layout.{layout, answer_length}
+use Rattle.std.specs.Prelude.{ℕ, List}
 use Rattle.meaning.specs.Lowest.{method_count}
 use Rattle.meaning.specs.Constraints.{answer}
-use Rattle.checker.specs.Grading.{by_answer, bytes_by_answer}
-use Rattle.checker.specs.declared.Verdict.{Verdict}
+use Rattle.checker.specs.Grading.{Verdict, by_answer, bytes_by_answer}
 use Rattle.solver.specs.Flat.{program_in}
-
--- the refusal that lengths decide: 1 before 2, and 0 where neither applies
-unfoldable pub by_length : (answer text : ℕ) → ℕ
-by_length answer text = cond (eqb answer answer_length) (cond (ltb layout.most_text text) 2 0) 1
 
 -- over tables that were read
 unfoldable pub solved_verdict : List ℕ → Verdict

@@ -1,20 +1,15 @@
 -- The reason of a refused text, as the code finds it, is what is promised.
 -- Assumes nothing.
-use Rattle.std.specs.Prelude.{ℕ, suc, ◌/◌, ◌≤◌, ◌<◌, Bool, true, false, ◌≡◌, refl, eqb}
+use Rattle.std.specs.Prelude.{ℕ, suc, ◌/◌, ◌≤◌, ◌<◌, Bool, true, false, ◌≡◌, refl, eqb, Option}
 use Rattle.std.proofs.Math.Bool.{cond}
 use mathlib.Core.List.{List, [], map}
 use Rattle.std.proofs.Math.Path.{sym, ap, ap₂}
 use Rattle.std.proofs.Common.{◌∙◌, subst, arith, le-leb, eq-eqb, ne_eqb}
-use Rattle.std.proofs.Math.Decide.{dec_lt}
 use Rattle.std.proofs.lemmas.Bool.{lt-leb}
 use Rattle.std.proofs.Math.ListN.{length, get_or-eq_default}
-use Rattle.frames.specs.Layout.{answer_length}
 use Rattle.frames.specs.Frames.{methods_in}
 use Rattle.frames.specs.Tables.{cell}
 use Rattle.frames.specs.Program.{Node, Method, Program, no_method, plain_node, method_at, node_at}
-use Rattle.frames.specs.Reading.{read_text}
-use Rattle.frames.specs.declared.Checked.{Checked}
-use Rattle.frames.specs.declared.Outcome.{Outcome}
 use Rattle.meaning.specs.Meaning.{root_of}
 use Rattle.meaning.specs.Lowest.{is_entry, rounds}
 use Rattle.meaning.specs.Constraints.{Entry, named_method}
@@ -24,24 +19,16 @@ use Rattle.reasons.proofs.Laws.Turns.{PlaceFits}
 use Rattle.reasons.proofs.Laws.Reason.{body-fits}
 use Rattle.solver.specs.Flat.{program_in}
 use Rattle.solver.specs.Laws.Views.{method-past}
-use Rattle.checker.specs.Grading.{program_read, by_reading}
-use Rattle.checker.specs.Code.Steps.{solved_verdict}
-use Rattle.checker.proofs.Laws.Grading.{right-verdict, read-program}
-use Rattle.checker.specs.declared.Verdict.{Verdict}
 use Rattle.explainer.specs.declared.places.Place.{Place}
-use Rattle.explainer.specs.declared.walk.Walk.{Walk}
 use Rattle.explainer.specs.declared.walk.Step.{Step}
-use Rattle.explainer.specs.Explain.{step_of, steps_of, bytes_over}
-use Rattle.explainer.specs.Broken.{chain_about, broken_by, broken_steps, bytes_broken}
+use Rattle.explainer.specs.Explain.{step_of, steps_of, bytes_of, bytes_over}
+use Rattle.explainer.specs.Broken.{chain_about, broken_steps, bytes_broken}
 use Rattle.explainer.specs.Code.Lower.{Ready}
 use Rattle.explainer.specs.Code.Places.{place_of, PlaceIn, AtRoot}
-use Rattle.explainer.specs.Code.Walk.{chain_of}
-use Rattle.explainer.specs.Code.Asked.{Along}
-use Rattle.explainer.specs.Code.Bytes.{ChainPut}
-use Rattle.explainer.specs.declared.broken.Found.{Found}
-use Rattle.explainer.specs.Code.Broken.{GivesAll, FoundBroken, ReadBroken}
+use Rattle.explainer.specs.declared.asked.Chain.{Chain}
+use Rattle.explainer.specs.Code.Asked.{Along, Gives}
+use Rattle.explainer.specs.Code.Broken.{GivesAny}
 use Rattle.explainer.proofs.Laws.Walk.{chain-here, some-round}
-use Rattle.explainer.proofs.Laws.Bytes.{chain-all, nothing_put, no_bytes}
 
 -- ---- a method's root in the lowest tables
 
@@ -90,50 +77,12 @@ module _ (p : Program) (m kind H : ℕ) where
 
 -- ---- what is given
 
-module _ (t noted : List ℕ) (steps : List Step) (count : ℕ) (walk : Walk) where
-  pub gives_none : steps ≡ [] → count ≡ 0 → GivesAll t noted steps count walk
-  gives_none s e = record { all = e ∙ sym (ap length s); along = λ h. absurd (omega arith) }
+-- all of the same steps
+pub gives-same : (t noted : List ℕ) (chain : Chain) (steps others : List Step) → steps ≡ others → Gives t noted steps chain → Gives t noted others chain
+gives-same t noted chain steps others e = subst (λ (l : List Step). Gives t noted l chain) e
 
-  pub gives_all : (is : List Step) (start : Walk) → steps ≡ is → Along t noted is start → count ≡ length (chain_of t start.at) → walk ≡ start → GivesAll t noted steps count walk
-  gives_all is start s along e w =
-      record {
-        all = e ∙ ap length (along.chain ∙ sym s);
-        along = λ _. subst (Along t noted steps) (sym w) (subst (λ (l : List Step). Along t noted l start) (sym s) along);
-      }
-
--- ---- of a text
-
--- what reads is solved
-pub whole-broken : (o : Outcome) (t : List ℕ) (r : Found) → o ≡ Outcome.Whole → FoundBroken t r → ReadBroken o t r
-unfolding solved_verdict
-whole-broken o t r e found = subst (λ (x : Outcome). ReadBroken x t r) (sym e) found
-
--- what does not read breaks nothing
-pub unread-broken : (o : Outcome) (p : Program) → (o ≡ Outcome.Whole → ⊥) → broken_by (by_reading o p) p ≡ []
-unread-broken Outcome.Whole p h = absurd (h refl)
-unread-broken Outcome.Overlong p h = refl
-unread-broken (Outcome.Malformed line) p h = refl
-unread-broken (Outcome.Misplaced line) p h = refl
-unread-broken (Outcome.OutOfRange line) p h = refl
-unread-broken (Outcome.Unlinked line) p h = refl
-
-by-program : (o : Outcome) (p q : Program) → (o ≡ Outcome.Whole → p ≡ q) → broken_by (by_reading o p) p ≡ broken_by (by_reading o q) q
-by-program Outcome.Whole p q e = ap (λ (x : Program). broken_by (by_reading Outcome.Whole x) x) (e refl)
-by-program Outcome.Overlong p q e = refl
-by-program (Outcome.Malformed line) p q e = refl
-by-program (Outcome.Misplaced line) p q e = refl
-by-program (Outcome.OutOfRange line) p q e = refl
-by-program (Outcome.Unlinked line) p q e = refl
-
-broken-read : (text : List ℕ) → broken_by (by_reading (read_text text).outcome (program_in (read_text text).tables.bytes)) (program_in (read_text text).tables.bytes) ≡ broken_steps text
-unfolding broken_steps
-broken-read text =
-    by-program (read_text text).outcome (program_in (read_text text).tables.bytes) (program_read text) (read-program text)
-    ∙ ap (λ (v : Verdict). broken_by v (program_read text)) (sym (right-verdict text answer_length (read_text text).outcome refl refl))
-
--- by what was read
-pub broken-of : (text : List ℕ) (read : Checked) → read ≡ read_text text → broken_by (by_reading read.outcome (program_in read.tables.bytes)) (program_in read.tables.bytes) ≡ broken_steps text
-broken-of text read e = ap (λ (x : Checked). broken_by (by_reading x.outcome (program_in x.tables.bytes)) (program_in x.tables.bytes)) e ∙ broken-read text
+pub any-same : (t noted : List ℕ) (chain : Option Chain) (steps others : List Step) → steps ≡ others → GivesAny t noted steps chain → GivesAny t noted others chain
+any-same t noted chain steps others e = subst (λ (l : List Step). GivesAny t noted l chain) e
 
 -- ---- the bytes
 
@@ -143,17 +92,12 @@ module _ (text from : List ℕ) where
   no_room h =
       sym (ap (λ (b : Bool). cond b (bytes_over (broken_steps text) from) from) (lt-leb (length (broken_steps text)) (length from / 8) h))
 
-  pub all-put : (t noted : List ℕ) (count : ℕ) (walk : Walk) (to : List ℕ) → GivesAll t noted (broken_steps text) count walk → count ≤ length from / 8 → ChainPut count (chain_of t walk.at) from to
-      → to ≡ bytes_broken text from
+  pub all-put : length (broken_steps text) ≤ length from / 8 → bytes_over (broken_steps text) from ≡ bytes_broken text from
   unfolding bytes_broken
-  all-put t noted count walk to gives h put =
-      go (dec_lt 0 count)
-      ∙ sym (ap (λ (b : Bool). cond b (bytes_over (broken_steps text) from) from)
-      (le-leb (length (broken_steps text)) (length from / 8) (subst (λ (n : ℕ). n ≤ length from / 8) gives.all h)))
-    where
-      go : Dec (0 < count) → to ≡ bytes_over (broken_steps text) from
-      go (yes l) =
-          chain-all count (broken_steps text) from to (subst (λ (s : List Step). ChainPut count s from to) (gives.along l).chain put) gives.all (omega arith)
-      go (no l) =
-          nothing_put count (chain_of t walk.at) from to put (omega arith)
-          ∙ sym (no_bytes (broken_steps text) from (omega (arith, gives.all)))
+  all-put h =
+      sym (ap (λ (b : Bool). cond b (bytes_over (broken_steps text) from) from) (le-leb (length (broken_steps text)) (length from / 8) h))
+
+  -- where there is no step nothing is put
+  pub none-put : [] ≡ broken_steps text → from ≡ bytes_broken text from
+  unfolding bytes_of
+  none-put e = ap (λ (s : List Step). bytes_over s from) e ∙ all-put (subst (λ (s : List Step). length s ≤ length from / 8) e (omega arith))

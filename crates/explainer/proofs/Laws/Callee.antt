@@ -1,8 +1,8 @@
 -- Which of a callee's held sets a call can meet, name by name.
 -- Assumes nothing.
-use Rattle.std.specs.Prelude.{ℕ, zero, suc, ◌+◌, ◌*◌, ◌/◌, ◌%◌, ◌^◌, ◌≤◌, ◌<◌, Bool, true, false, not, cond, ◌&&◌, ◌||◌, List, [], ◌∷◌, map, ◌≡◌, refl, length, get_or, take}
+use Rattle.std.specs.Prelude.{ℕ, zero, suc, ◌+◌, ◌*◌, ◌/◌, ◌%◌, ◌^◌, ◌≤◌, ◌<◌, Bool, true, false, not, cond, ◌&&◌, ◌||◌, List, [], ◌∷◌, map, ◌⊎◌, ◌≡◌, refl, Option, Some, None, MatchOption, unwrap_or, IsTrue, ◌↔◌, length, get_or, take}
 use Rattle.std.proofs.Math.Path.{sym}
-use Rattle.std.proofs.Common.{ap, ap₂, ◌∙◌, subst, arith, eq-eqb, ne_eqb, pow-suc}
+use Rattle.std.proofs.Common.{inl, inr, ap, ap₂, ◌∙◌, subst, arith, eq-eqb, ne_eqb, pow-suc}
 use Rattle.std.proofs.Math.Decide.{dec_lt, ℕ_discrete}
 use Rattle.std.proofs.Math.Dec.{T, eqb, eqb→eq, not_T}
 use Rattle.counting.specs.Counting.{member, together}
@@ -16,7 +16,9 @@ use Rattle.meaning.specs.Lowest.{entry_count}
 use Rattle.meaning.proofs.Laws.Calls.{entries-few}
 use Rattle.reasons.specs.Steps.{callee_set}
 use Rattle.reasons.proofs.Laws.Calls.{Attained, match-attained, match-below, largest-least}
-use Rattle.explainer.specs.Code.Callee.{agrees, Meets, Best}
+use Rattle.explainer.specs.declared.callee.Entry.{Entry}
+use Rattle.explainer.proofs.Laws.Picks.{passed}
+use Rattle.explainer.specs.Code.Callee.{agrees, Meets, BestAt, Best}
 
 -- ---- one name more
 
@@ -114,108 +116,108 @@ matching-at (suc k) (t ∷ names) H S l m (suc i) g =
     (matching-at k names H (S / 2) (omega arith)
     (both_right (agrees H S 0 t) (member (S / 2) (matching (take k names) H)) (subst T (matching-more t (take k names) H S) m)) i (omega arith))
 
+pub matching_iff : (k : ℕ) (names : List ℕ) (H S : ℕ) → S < 2 ^ k → k ≤ length names → (r : Bool)
+    → (IsTrue r ↔ ((i : ℕ) → i < k → IsTrue (agrees H S i (get_or names i 0)))) → r ≡ member S (matching (take k names) H)
+matching_iff k names H S h l true each =
+    sym (passed (member S (matching (take k names) H)) (matching-of k names H S h l (λ i g. subst T (sym (each.0 refl i g)) tt)))
+matching_iff k names H S h l false each = go (member S (matching (take k names) H)) refl
+  where
+    go : (b : Bool) → member S (matching (take k names) H) ≡ b → false ≡ b
+    go true e = each.1 (λ i g. passed (agrees H S i (get_or names i 0)) (matching-at k names H S l (subst T (sym e) tt) i g))
+    go false e = refl
+
 -- ---- the lowest among the largest
 
-module _ (table : ℕ → ℕ) (names : List ℕ) (k H past : ℕ) where
-  pub best-start : (grade : ℕ) → Best table names k H 0 past grade past
-  best-start grade =
-      record {
-        within = λ l. absurd (omega arith);
-        found = λ l. absurd (omega arith);
-        is = λ l. absurd (omega arith);
-        largest = λ l. absurd (omega arith);
-        lowest = λ l. absurd (omega arith);
-        none = λ l S h. absurd (omega arith);
-      }
+module _ (table : ℕ → ℕ) (names : List ℕ) (k H : ℕ) where
+  pub best-start : Best table names k H 0 None
+  best-start S h m = absurd (omega arith)
 
   -- the next set does not match
-  pub best-passed : (b grade set : ℕ) → Best table names k H b past grade set → (Meets names k H b → ⊥) → Best table names k H (b + 1) past grade set
-  best-passed b grade set best not =
-      record {
-        within = λ l. omega (arith, best.within l);
-        found = best.found;
-        is = best.is;
-        largest = λ l S h m. last S h m (best.largest l S) (dec_lt S b);
-        lowest = best.lowest;
-        none = λ l S h m. never S h m (best.none l S) (dec_lt S b);
-      }
+  pub best-passed : (b : ℕ) (r : Option Entry) → Best table names k H b r → (Meets names k H b → ⊥) → Best table names k H (b + 1) r
+  best-passed b None none not = λ S h m. last S h m (dec_lt S b)
     where
-      last : (S : ℕ) → S < b + 1 → Meets names k H S → (S < b → Meets names k H S → table S ≤ grade) → Dec (S < b) → table S ≤ grade
-      last S h m before (yes l) = before l m
-      last S h m before (no l) = let same : S ≡ b = omega arith in absurd (not (subst (Meets names k H) same m))
-
-      never : (S : ℕ) → S < b + 1 → Meets names k H S → (S < b → Meets names k H S → ⊥) → Dec (S < b) → ⊥
-      never S h m before (yes l) = before l m
-      never S h m before (no l) = let same : S ≡ b = omega arith in not (subst (Meets names k H) same m)
-
-  -- it matches, and is no larger than the best so far
-  pub best-kept : (b grade set : ℕ) → Best table names k H b past grade set → set < past → table b ≤ grade → Best table names k H (b + 1) past grade set
-  best-kept b grade set best some le =
-      record {
-        within = λ l. omega (arith, best.within l);
-        found = best.found;
-        is = best.is;
-        largest = λ l S h m. last S h m (best.largest l S) (dec_lt S b);
-        lowest = best.lowest;
-        none = λ l. absurd (omega arith);
-      }
+      last : (S : ℕ) → S < b + 1 → Meets names k H S → Dec (S < b) → ⊥
+      last S h m (yes l) = none S l m
+      last S h m (no l) = let same : S ≡ b = omega arith in not (subst (Meets names k H) same m)
+  best-passed b (Some e) best not =
+      record { within = omega (arith, best.within); found = best.found; is = best.is; largest = λ S h m. last S h m (dec_lt S b); lowest = best.lowest }
     where
-      last : (S : ℕ) → S < b + 1 → Meets names k H S → (S < b → Meets names k H S → table S ≤ grade) → Dec (S < b) → table S ≤ grade
-      last S h m before (yes l) = before l m
-      last S h m before (no l) = let same : S ≡ b = omega arith in omega (arith, ap table same)
+      last : (S : ℕ) → S < b + 1 → Meets names k H S → Dec (S < b) → table S ≤ e.grade
+      last S h m (yes l) = best.largest S l m
+      last S h m (no l) = let same : S ≡ b = omega arith in absurd (not (subst (Meets names k H) same m))
+
+  -- it matches, and is no larger
+  pub best-kept : (b grade set : ℕ) → BestAt table names k H b grade set → table b ≤ grade → BestAt table names k H (b + 1) grade set
+  best-kept b grade set best less =
+      record { within = omega (arith, best.within); found = best.found; is = best.is; largest = λ S h m. last S h m (dec_lt S b); lowest = best.lowest }
+    where
+      last : (S : ℕ) → S < b + 1 → Meets names k H S → Dec (S < b) → table S ≤ grade
+      last S h m (yes l) = best.largest S l m
+      last S h m (no l) = let same : S ≡ b = omega arith in omega (arith, ap table same)
 
   -- it matches, and is the first or larger
-  pub best-taken : (b grade set : ℕ) → Best table names k H b past grade set → Meets names k H b → b < past → (set < past → grade < table b)
-      → Best table names k H (b + 1) past (table b) b
-  best-taken b grade set best meets inside more =
-      record {
-        within = λ l. omega arith;
-        found = λ l. meets;
-        is = λ l. refl;
-        largest = λ l S h m. last S h (λ g. before S g m (dec_lt set past)) (dec_lt S b);
-        lowest = λ l S h m. before S h m (dec_lt set past);
-        none = λ l. absurd (omega arith);
-      }
+  pub best-taken : (b : ℕ) → Meets names k H b → ((S : ℕ) → S < b → Meets names k H S → table S < table b) → BestAt table names k H (b + 1) (table b) b
+  best-taken b meets more =
+      record { within = omega arith; found = meets; is = refl; largest = λ S h m. last S h (λ g. more S g m) (dec_lt S b); lowest = more }
     where
-      before : (S : ℕ) → S < b → Meets names k H S → Dec (set < past) → table S < table b
-      before S h m (yes l) = omega (arith, best.largest l S h m, more l)
-      before S h m (no l) = absurd (best.none (omega arith) S h m)
-
       last : (S : ℕ) → S < b + 1 → (S < b → table S < table b) → Dec (S < b) → table S ≤ table b
       last S h less (yes l) = omega (arith, less l)
       last S h less (no l) = let same : S ≡ b = omega arith in omega (arith, ap table same)
 
--- all sets looked at: the entry is the call's own part, and the set the one that it goes to
-module _ (p : Program) (a : Assignment) (node : Node) (H : ℕ) (grade set : ℕ)
-    (best : Best (a node.U) node.names (method_at p node.U).k H (entry_count p node.U) (entry_count p node.U) grade set) where
-  abbrev sets : List ℕ
-  sets = matching (take (method_at p node.U).k node.names) H
+  -- one set more, which the call can meet
+  pub best-more : (b v : ℕ) (best : Option Entry) (r : Entry) → v ≡ table b → Best table names k H b best → Meets names k H b
+      → MatchOption best (r ≡ record { grade = v; set = b }) (λ e. ((v ≤ e.grade) × (r ≡ e)) ⊎ ((e.grade < v) × (r ≡ record { grade = v; set = b })))
+      → BestAt table names k H (b + 1) r.grade r.set
+  best-more b v best r is so_far meets = go best so_far
+    where
+      first : r ≡ record { grade = v; set = b } → ((S : ℕ) → S < b → Meets names k H S → table S < table b) → BestAt table names k H (b + 1) r.grade r.set
+      first e more =
+          subst (λ (x : Entry). BestAt table names k H (b + 1) x.grade x.set) (sym e)
+          (subst (λ (g : ℕ). BestAt table names k H (b + 1) g b) (sym is) (best-taken b meets more))
 
-  it : Attained (a node.U) sets
+      go : (best : Option Entry) → Best table names k H b best
+          → MatchOption best (r ≡ record { grade = v; set = b }) (λ e. ((v ≤ e.grade) × (r ≡ e)) ⊎ ((e.grade < v) × (r ≡ record { grade = v; set = b })))
+          → BestAt table names k H (b + 1) r.grade r.set
+      go None none e = first e (λ S h m. absurd (none S h m))
+      go (Some e) best (inl kept) =
+          subst (λ (x : Entry). BestAt table names k H (b + 1) x.grade x.set) (sym kept.1) (best-kept b e.grade e.set best (omega (arith, kept.0)))
+      go (Some e) best (inr taken) = first taken.1 (λ S h m. omega (arith, best.largest S h m, taken.0))
+
+-- a call can meet one of the callee's sets
+module _ (p : Program) (a : Assignment) (node : Node) (H : ℕ) where
+  it : Attained (a node.U) (matching (take (method_at p node.U).k node.names) H)
   it = match-attained (a node.U) (take (method_at p node.U).k node.names) H
 
   it-below : it.set < entry_count p node.U
   unfolding entry_count
   it-below = entries-few (method_at p node.U).k node.names it.set (match-below (take (method_at p node.U).k node.names) H it.set it.among)
 
+  pub met : (r : Option Entry) (d : Entry) → Best (a node.U) node.names (method_at p node.U).k H (entry_count p node.U) r
+      → BestAt (a node.U) node.names (method_at p node.U).k H (entry_count p node.U) (unwrap_or r d).grade (unwrap_or r d).set
+  met None d none = absurd (none it.set it-below it.among)
+  met (Some e) d best = best
+
+-- all sets looked at: the entry is the call's own part, and the set the one that it goes to
+module _ (p : Program) (a : Assignment) (node : Node) (H : ℕ) (grade set : ℕ)
+    (best : BestAt (a node.U) node.names (method_at p node.U).k H (entry_count p node.U) grade set) where
+  abbrev sets : List ℕ
+  sets = matching (take (method_at p node.U).k node.names) H
+
   pub set_found : set < entry_count p node.U
-  set_found = go (dec_lt set (entry_count p node.U))
-    where
-      go : Dec (set < entry_count p node.U) → set < entry_count p node.U
-      go (yes l) = l
-      go (no l) = absurd (best.none (omega arith) it.set it-below it.among)
+  set_found = best.within
 
   pub grade-found : grade ≡ callee_entry (method_at p node.U).k (a node.U) node.names H
   unfolding callee_entry
   grade-found =
-      omega (arith, best.largest set_found it.set it-below it.among, it.largest, best.is set_found, largest-least (a node.U) sets set (best.found set_found))
+      let one = it p a node H in
+      omega (arith, best.largest one.set (it-below p a node H) one.among, one.largest, best.is, largest-least (a node.U) sets set best.found)
 
   pub callee-found : set ≡ callee_set p a node H grade
   unfolding callee_set
   callee-found =
-      sym (first-unique (entry_count p node.U) (λ S. member S sets && eqb (a node.U S) grade) set set_found
-      (both_of (member set sets) (eqb (a node.U set) grade) (best.found set_found) (subst T (sym (eq-eqb (a node.U set) grade (best.is set_found))) tt))
+      sym (first-unique (entry_count p node.U) (λ S. member S sets && eqb (a node.U S) grade) set best.within
+      (both_of (member set sets) (eqb (a node.U set) grade) best.found (subst T (sym (eq-eqb (a node.U set) grade best.is)) tt))
       (λ j l. not_T (member j sets && eqb (a node.U j) grade) (λ both. less j l (both_left (member j sets) (eqb (a node.U j) grade) both) (both_right (member j sets) (eqb (a node.U j) grade) both))))
     where
       less : (j : ℕ) → j < set → T (member j sets) → T (eqb (a node.U j) grade) → ⊥
-      less j l m e = omega (arith, best.lowest set_found j l m, eqb→eq (a node.U j) grade e)
+      less j l m e = omega (arith, best.lowest j l m, eqb→eq (a node.U j) grade e)

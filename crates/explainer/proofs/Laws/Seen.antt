@@ -1,15 +1,19 @@
 -- What a step looks at, part by part.
 -- Assumes nothing.
-use Rattle.std.specs.Prelude.{ℕ, zero, suc, ◌+◌, ◌≤◌, ◌<◌, not, ◌≡◌, refl, T}
+use Rattle.std.specs.Prelude.{ℕ, zero, suc, ◌+◌, ◌≤◌, ◌<◌, not, min, ◌≡◌, refl, Some, None, T}
 use mathlib.Core.List.{List, [], ◌∷◌, ◌++◌, map}
 use Rattle.std.proofs.Common.{sym, ◌∙◌, subst, arith}
 use Rattle.std.proofs.Math.Path.{ap, ap₂}
 use Rattle.std.proofs.Math.ListN.{length, get_or, length-append, length-map, get_or-append}
+use Rattle.std.proofs.lemmas.Option.{slice_get-get_or, slice_get_past}
 use Rattle.frames.specs.Program.{Node, Program}
+use Rattle.frames.specs.Ops.{op_named, number_of}
+use Rattle.frames.specs.declared.ops.Op.TheVariants.{Call}
+use Rattle.frames.specs.Laws.Ops.{named_number}
 use Rattle.frames.specs.Ranges.{children_listed}
 use Rattle.meaning.specs.Meaning.{Assignment, Op, plain_value, read, write, sequence, choice, loop, synchronised, assertion, call, fork, no_op, op_of, listed, children, Part, child, own, child_set, own_part, parts}
 use Rattle.meaning.specs.Tree.{is_call}
-use Rattle.solver.specs.Nodes.{no_child, child_at, own_grade}
+use Rattle.solver.specs.Nodes.{no_child, child_at, listed_child, own_grade}
 use Rattle.solver.specs.Laws.Engine.{op-cases, op-past, children_listed-past}
 use Rattle.explainer.specs.Code.Picks.{part_at}
 use Rattle.explainer.specs.Code.Places.{own_count}
@@ -36,6 +40,15 @@ pub children-count : (node : Node) → length (children node) ≡ children_liste
 unfolding children
 children-count node = listed-count node.X node.Y node.Z node.op
 
+-- the children by number, as many as there are
+pub listed-some : (node : Node) (i : ℕ) → i < children_listed node.op → listed_child node i ≡ Some (child_at node i)
+unfolding listed_child child_at
+listed-some node i h = slice_get-get_or (children node) i no_child (omega (arith, children-count node))
+
+pub listed-none : (node : Node) (i : ℕ) → children_listed node.op ≤ i → listed_child node i ≡ None
+unfolding listed_child
+listed-none node i h = slice_get_past (children node) i (omega (arith, children-count node))
+
 -- only a call is op 8
 pub call-number : (op : ℕ) → op_of op ≡ call → op ≡ 8
 unfolding op_of
@@ -46,6 +59,9 @@ call-number =
   where
     clash : no_op ≡ call → ⊥
     clash e = subst (λ (o : Op). T (not (is_call o))) e tt
+
+pub call-named : (op : ℕ) → op_named op ≡ Call → op ≡ 8
+call-named op e = sym (named_number op) ∙ ap number_of e
 
 -- an op other than a call takes nothing from the tables
 pub own-apart : (p : Program) (a a' : Assignment) (node : Node) (H op : ℕ) → (op ≡ 8 → ⊥) → own_grade p a (op_of op) node H ≡ own_grade p a' (op_of op) node H

@@ -1,38 +1,43 @@
 -- The turn at each place, as the code takes it.
 -- Assumes nothing.
 use Prim.Native.Nat.{ℕ, pred, ◌+◌, ◌≤◌, ◌<◌}
-use Rattle.std.specs.Prelude.{Bool, true, false, not, cond, List, [], ◌∷◌, ◌++◌, map, ◌≡◌, T, eqb, length, get_or}
+use Rattle.std.specs.Prelude.{Bool, true, false, not, cond, List, [], ◌∷◌, ◌++◌, map, ◌≡◌, Option, Some, None, MatchOption, T, eqb, get_or}
 use Rattle.std.proofs.Math.Path.{refl, subst}
-use Rattle.std.proofs.Common.{sym, ap, ap₂, ◌∙◌, arith, lt-ltb, le-ltb, eq-eqb}
+use Rattle.std.proofs.Common.{sym, ap, ◌∙◌, arith, eq-eqb}
 use Rattle.std.proofs.Math.Decide.{dec_lt}
 use Rattle.counting.specs.Counting.{first}
-use Rattle.counting.specs.Laws.Counting.{first-same}
 use Rattle.grades.specs.Grades.{error, compose}
 use Rattle.grades.proofs.Laws.Grades.{cap-grade, compose-const}
 use Rattle.grades.specs.HeldSets.{held}
+use Rattle.std.proofs.lemmas.Option.{MatchOption-at_some, MatchOption-at_none}
+use Rattle.frames.specs.declared.ops.Op as ops
+use Rattle.frames.specs.declared.ops.Op.TheVariants.{PlainValue, Read, Write, Sequence, Choice, Loop, Synchronised, Assertion, Call, Fork, NoOp}
 use Rattle.frames.specs.Program.{Program, method_at, node_at}
 use Rattle.meaning.specs.Meaning.{Op, call, op_of, listed, children, child_set, first_name, Part, child, own, own_part, parts, part_grade, whole, node_grade, below, meaning}
 use Rattle.meaning.specs.Lowest.{is_declared}
 use Rattle.meaning.proofs.Laws.Meaning.{below-error}
-use Rattle.reasons.specs.Steps.{Place, tables_before, node_here, grade_at, parts_at, part_grade_at, Pick, picked, none, first_part, last_atomic, pick_of, pick_at, or_else, ends, goes_on, Turn, end_rule, own_turn}
+use Rattle.reasons.specs.Steps as steps
+use Rattle.reasons.specs.Steps.{Place, tables_before, node_here, grade_at, parts_at, part_grade_at, picked, none, first_part, last_atomic, pick_of, pick_at, or_else, ends, goes_on, Turn, end_rule, own_turn}
 use Rattle.solver.specs.Flat.{program_in}
-use Rattle.solver.specs.Laws.Engine.{op-cases, op-past}
+use Rattle.solver.specs.Nodes.{meant}
+use Rattle.solver.specs.Laws.Engine.{op-cases, op-past, meant_named}
 use Rattle.solver.specs.Code.Rounds.{At}
 use Rattle.reasons.proofs.Laws.Calls.{CalleeSet, callee-set}
 use Rattle.explainer.specs.declared.places.Place as code
 use Rattle.explainer.specs.Code.Lower.{Ready}
 use Rattle.explainer.specs.declared.places.Onward.{Onward}
+use Rattle.explainer.specs.declared.picks.Pick.{Pick}
 use Rattle.explainer.specs.declared.seen.Seen.{Seen}
-use Rattle.explainer.specs.Code.Picks.{LastOf, PickedAt, same, twice, nothing, part_at, picked_at}
+use Rattle.explainer.specs.Code.Picks.{PickedAt, same, twice, part_at, pick_in}
 use Rattle.explainer.specs.Code.Places.{place_of, PlaceIn, HasBeen, SeenAt, child_number, TurnOf}
-use Rattle.explainer.proofs.Laws.Picks.{pick-by-number}
+use Rattle.explainer.proofs.Laws.Picks.{pick-by-number, picked_same}
 use Rattle.explainer.proofs.Laws.Places.{called-few}
 use Rattle.explainer.proofs.Laws.Seen.{call-number}
 
 -- ---- a call whose own part is picked has a grade over const
 
 -- the grade of an own part that is picked
-abbrev own_picked : Pick → ℕ
+abbrev own_picked : steps.Pick → ℕ
 own_picked (picked (own g) added) = g
 own_picked (picked (child c S) added) = 1
 own_picked none = 1
@@ -64,7 +69,7 @@ own-some grade c S g h e =
 
 module _ (p : Program) (at : Place) where
   -- the part picked, by the node's op
-  abbrev pick_by : Op → Pick
+  abbrev pick_by : Op → steps.Pick
   pick_by o =
       pick_of
       (whole o (not (held at.set (first_name (node_at (method_at p at.method) at.node).names)))
@@ -86,68 +91,45 @@ module _ (p : Program) (at : Place) where
 
   pub call-some : op_of (node_here p at).op ≡ call → (g added : ℕ) → pick_at p at ≡ picked (own g) added → 1 ≤ g
   unfolding pick_at grade_at meaning node_grade parts_at parts part_grade_at node_here children
-  call-some e g added k = subst (λ (x : Pick). 1 ≤ own_picked x) k (call-picks (op_of (node_at (method_at p at.method) at.node).op) e)
+  call-some e g added k = subst (λ (x : steps.Pick). 1 ≤ own_picked x) k (call-picks (op_of (node_at (method_at p at.method) at.node).op) e)
 
 -- ---- what is seen, picked
 
-module _ (t : List ℕ) (at : code.Place) (r : Seen) (seen : SeenAt t at r) (part added : ℕ)
-    (pick : PickedAt r.whole (λ i. get_or r.grades i 0) r.count part added) where
-  -- the same tests over the node's parts
-  picked-here : PickedAt (grade_at (program_in t) (place_of at)) (λ i. part_grade_at (program_in t) (place_of at) (part_at (parts_at (program_in t) (place_of at)) i)) (length (parts_at (program_in t) (place_of at))) part added
-  picked-here = over r.whole (λ i. get_or r.grades i 0) r.count seen.whole seen.count seen.graded part added pick
-    where
-      tests : (f g : ℕ → ℕ) (w w' n : ℕ) → w ≡ w' → ((i : ℕ) → i < n → f i ≡ g i) → first n (λ i. eqb (f i) w) ≡ first n (λ i. eqb (g i) w')
-      tests f g w w' n e h = first-same n (λ i. eqb (f i) w) (λ i. eqb (g i) w') (λ i l. ap₂ eqb (h i l) e)
+-- a part that is picked is one of them, and at most 8 is added
+pub pick-few : {w : ℕ} {f : ℕ → ℕ} {n : ℕ} {q : Pick} → PickedAt w f n (Some q) → (q.part < n) × (q.added ≤ 8)
+pick-few (same _ x l) = (l, omega arith)
+pick-few (twice _ x y l) = (l.bound, omega arith)
 
-      last : (f g : ℕ → ℕ) (n q : ℕ) → ((i : ℕ) → i < n → f i ≡ g i) → LastOf n (λ i. eqb (f i) 2) q → LastOf n (λ i. eqb (g i) 2) q
-      last f g n q h l =
-          record {
-            bound = l.bound;
-            passes = λ b. subst (λ (x : ℕ). T (eqb x 2)) (h q b) (l.passes b);
-            later = λ j b c. subst (λ (x : ℕ). T (not (eqb x 2))) (h j c) (l.later j b c);
-            none = λ b j c. subst (λ (x : ℕ). T (not (eqb x 2))) (h j c) (l.none b j c);
-          }
+pub added-few : (w : ℕ) (f : ℕ → ℕ) (n : ℕ) (q : Pick) → PickedAt w f n (Some q) → q.added ≤ 8
+added-few w f n q is = (pick-few is).1
 
-      over : (w : ℕ) (f : ℕ → ℕ) (n : ℕ) → w ≡ grade_at (program_in t) (place_of at) → n ≡ length (parts_at (program_in t) (place_of at))
-          → ((i : ℕ) → i < n → f i ≡ part_grade_at (program_in t) (place_of at) (part_at (parts_at (program_in t) (place_of at)) i))
-          → (part added : ℕ) → PickedAt w f n part added
-          → PickedAt (grade_at (program_in t) (place_of at)) (λ i. part_grade_at (program_in t) (place_of at) (part_at (parts_at (program_in t) (place_of at)) i)) (length (parts_at (program_in t) (place_of at))) part added
-      over w f n e c h part added k =
-          subst (λ (m : ℕ). PickedAt (grade_at (program_in t) (place_of at)) (λ i. part_grade_at (program_in t) (place_of at) (part_at (parts_at (program_in t) (place_of at)) i)) m part added) c (by k)
-        where
-          by : {part added : ℕ} → PickedAt w f n part added
-              → PickedAt (grade_at (program_in t) (place_of at)) (λ i. part_grade_at (program_in t) (place_of at) (part_at (parts_at (program_in t) (place_of at)) i)) n part added
-          by (same q x l) = same q (x ∙ tests f _ w _ n e h) l
-          by (twice q x y l) = twice q (subst (λ (m : ℕ). n ≤ m) (tests f _ w _ n e h) x) (sym e ∙ y) (last f _ n q h l)
-          by (nothing x y) = nothing (subst (λ (m : ℕ). n ≤ m) (tests f _ w _ n e h) x) (λ z. y (e ∙ z))
-
-  pick-here : pick_at (program_in t) (place_of at) ≡ picked_at (parts_at (program_in t) (place_of at)) part added
+module _ (t : List ℕ) (at : code.Place) (r : Seen) (seen : SeenAt t at r) where
+  pick-here : (pick : Option Pick) → PickedAt r.whole (λ i. get_or r.grades i 0) r.count pick
+      → pick_at (program_in t) (place_of at) ≡ pick_in (parts_at (program_in t) (place_of at)) pick
   unfolding pick_at
-  pick-here = pick-by-number (grade_at (program_in t) (place_of at)) (part_grade_at (program_in t) (place_of at)) (parts_at (program_in t) (place_of at)) part added picked-here
+  pick-here pick is =
+      pick-by-number (grade_at (program_in t) (place_of at)) (part_grade_at (program_in t) (place_of at)) (parts_at (program_in t) (place_of at)) pick
+      (subst (λ (n : ℕ). PickedAt (grade_at (program_in t) (place_of at)) (λ i. part_grade_at (program_in t) (place_of at) (part_at (parts_at (program_in t) (place_of at)) i)) n pick) seen.count
+      (picked_same (λ i. get_or r.grades i 0) (λ i. part_grade_at (program_in t) (place_of at) (part_at (parts_at (program_in t) (place_of at)) i)) r.whole
+      (grade_at (program_in t) (place_of at)) r.count seen.whole seen.graded is))
 
-  part-here : part < r.count → pick_at (program_in t) (place_of at) ≡ picked (part_at (parts_at (program_in t) (place_of at)) part) added
-  part-here l = pick-here ∙ there (subst (λ (n : ℕ). part < n) seen.count l)
-    where
-      there : part < length (parts_at (program_in t) (place_of at)) → picked_at (parts_at (program_in t) (place_of at)) part added ≡ picked (part_at (parts_at (program_in t) (place_of at)) part) added
-      there h = unfold picked_at in rw (lt-ltb part (length (parts_at (program_in t) (place_of at))) h) refl
+  pub none-picked : PickedAt r.whole (λ i. get_or r.grades i 0) r.count None → pick_at (program_in t) (place_of at) ≡ none
+  none-picked = pick-here None
 
-  pub child-picked : part < r.listed → pick_at (program_in t) (place_of at) ≡ picked (child (child_number r part) r.under) added
-  child-picked l = part-here (omega (arith, seen.listed)) ∙ ap (λ (x : Part). picked x added) (seen.children part l)
+  module _ (q : Pick) (is : PickedAt r.whole (λ i. get_or r.grades i 0) r.count (Some q)) where
+    part-seen : MatchOption (child_number r q.part) (part_at (parts_at (program_in t) (place_of at)) q.part ≡ own r.own)
+        (λ c. part_at (parts_at (program_in t) (place_of at)) q.part ≡ child c r.under)
+    part-seen = seen.parts q.part (pick-few is).0
 
-  pub own-picked : r.listed ≤ part → part < r.count → pick_at (program_in t) (place_of at) ≡ picked (own r.own) added
-  own-picked h l = part-here l ∙ ap (λ (x : Part). picked x added) (seen.owned part h l)
+    pub child-picked : (c : ℕ) → child_number r q.part ≡ Some c → pick_at (program_in t) (place_of at) ≡ picked (child c r.under) q.added
+    child-picked c e = pick-here (Some q) is ∙ ap (λ (x : Part). picked x q.added) (MatchOption-at_some _ _ c e part-seen)
 
-  pub none-picked : r.count ≤ part → pick_at (program_in t) (place_of at) ≡ none
-  none-picked h = pick-here ∙ past (subst (λ (n : ℕ). n ≤ part) seen.count h)
-    where
-      past : length (parts_at (program_in t) (place_of at)) ≤ part → picked_at (parts_at (program_in t) (place_of at)) part added ≡ none
-      past h = unfold picked_at in rw (le-ltb part (length (parts_at (program_in t) (place_of at))) h) refl
+    pub own-picked : child_number r q.part ≡ None → pick_at (program_in t) (place_of at) ≡ picked (own r.own) q.added
+    own-picked e = pick-here (Some q) is ∙ ap (λ (x : Part). picked x q.added) (MatchOption-at_none _ _ e part-seen)
 
--- at most 8 is added
-pub added-few : (w : ℕ) (f : ℕ → ℕ) (n part added : ℕ) → PickedAt w f n part added → added ≤ 8
-added-few w f n part added (same _ x l) = omega arith
-added-few w f n part added (twice _ x y l) = omega arith
-added-few w f n part added (nothing x y) = omega arith
+  -- the node's op by its name
+  pub op-meant : meant r.op ≡ op_of (node_here (program_in t) (place_of at)).op
+  op-meant = ap meant seen.op ∙ meant_named (node_here (program_in t) (place_of at)).op
 
 -- ---- the rules by number
 
@@ -167,19 +149,36 @@ own-access op declared to added =
     (λ _ _. refl) (λ _ _. refl) (λ _ _. refl) (λ _ _. refl) (λ _ _. refl) (λ _ _. refl) (λ _ _. refl) (λ _ _. refl) (λ h _. absurd (h refl)) (λ _ h. absurd (h refl))
     (λ n g _ _. ap (λ (o : Op). own_turn o declared to added) (op-past n g)) op
 
+-- ---- the rules by name
+
+-- an own part that is neither a call's nor a fork's
+pub own-access_named : (o : ops.Op) (declared : Bool) (to : Place) (added : ℕ) → (o ≡ Call → ⊥) → (o ≡ Fork → ⊥)
+    → own_turn (meant o) declared to added ≡ record { rule = 3 + added; next = ends }
+own-access_named PlainValue declared to added c f = refl
+own-access_named Read declared to added c f = refl
+own-access_named Write declared to added c f = refl
+own-access_named Sequence declared to added c f = refl
+own-access_named Choice declared to added c f = refl
+own-access_named Loop declared to added c f = refl
+own-access_named Synchronised declared to added c f = refl
+own-access_named Assertion declared to added c f = refl
+own-access_named Call declared to added c f = absurd (c refl)
+own-access_named Fork declared to added c f = absurd (f refl)
+own-access_named (NoOp n) declared to added c f = refl
+
 -- ---- turns, as the code gives them
 
 -- the chain ends
-pub ended : (t : List ℕ) (at : code.Place) (rule : ℕ) (turn : Turn) (r : Onward) → r ≡ record { rule = rule; on = false; to = at } → turn ≡ record { rule = rule; next = ends } → TurnOf t turn r
-ended t at rule turn r e f =
-    subst (TurnOf t turn) (sym e) (record { rule = sym (ap (λ (x : Turn). x.rule) f); next = sym (ap (λ (x : Turn). x.next) f); to = λ b. absurd b })
+pub ended : (t : List ℕ) (rule : ℕ) (turn : Turn) (r : Onward) → r ≡ record { rule = rule; to = None } → turn ≡ record { rule = rule; next = ends } → TurnOf t turn r
+ended t rule turn r e f =
+    subst (TurnOf t turn) (sym e) (record { rule = sym (ap (λ (x : Turn). x.rule) f); next = sym (ap (λ (x : Turn). x.next) f); to = tt })
 
 -- it goes on to a place that is found
-pub went : (t : List ℕ) (to : code.Place) (rule : ℕ) (turn : Turn) (there : Place) (r : Onward) → r ≡ record { rule = rule; on = true; to = to } → place_of to ≡ there
+pub went : (t : List ℕ) (to : code.Place) (rule : ℕ) (turn : Turn) (there : Place) (r : Onward) → r ≡ record { rule = rule; to = Some to } → place_of to ≡ there
     → At t to.method to.first → turn ≡ record { rule = rule; next = goes_on there } → TurnOf t turn r
 went t to rule turn there r e f first g =
     subst (TurnOf t turn) (sym e)
-    (record { rule = sym (ap (λ (x : Turn). x.rule) g); next = ap goes_on f ∙ sym (ap (λ (x : Turn). x.next) g); to = λ b. first })
+    (record { rule = sym (ap (λ (x : Turn). x.rule) g); next = ap goes_on f ∙ sym (ap (λ (x : Turn). x.next) g); to = first })
 
 -- the callee of a call whose own part is picked
 module _ (t noted : List ℕ) (ready : Ready t noted) (at : code.Place) (placed : PlaceIn t at) (r : Seen) (seen : SeenAt t at r)

@@ -1,6 +1,7 @@
 -- Places as the code has them, what a step looks at there, and where it goes on.
 -- Assumes nothing.
-use Rattle.std.specs.Prelude.{ℕ, zero, suc, ◌≤◌, ◌<◌, Bool, true, false, not, List, ◌≡◌, T, length, get_or}
+use Rattle.std.specs.Prelude.{ℕ, zero, suc, ◌≤◌, ◌<◌, not, List, ◌≡◌, Option, Some, None, MatchOption, IfSome, T, length, get_or}
+use Rattle.frames.specs.Ops.{op_named}
 use Rattle.frames.specs.Program.{Node, Program, method_at}
 use Rattle.meaning.specs.Meaning.{Op, plain_value, read, write, sequence, choice, loop, synchronised, assertion, call, fork, no_op, op_of, root_of, callee_entry, child, own}
 use Rattle.meaning.specs.Lowest.{entry_count, after, declarations, is_declared, rounds}
@@ -14,7 +15,7 @@ use Rattle.explainer.specs.declared.places.Place.{Place}
 use Rattle.explainer.specs.declared.places.Onward.{Onward}
 use Rattle.explainer.specs.declared.seen.Seen.{Seen}
 use Rattle.explainer.specs.Code.Lower.{Lower}
-use Rattle.explainer.specs.Code.Callee.{Best}
+use Rattle.explainer.specs.Code.Callee.{BestAt}
 use Rattle.explainer.specs.Code.Picks.{part_at}
 
 -- ---- places
@@ -66,25 +67,26 @@ own_count no_op = 0
 -- a call's own part is the best of the callee's entries; any other is given
 pub record OwnEntry (p : Program) (node : Node) (at : Place) (given grade set : ℕ) : Type 0 where
   pub called : node.op ≡ 8
-      → Best (tables_before p at.round node.U) node.names (method_at p node.U).k at.set (entry_count p node.U) (entry_count p node.U) grade set
+      → BestAt (tables_before p at.round node.U) node.names (method_at p node.U).k at.set (entry_count p node.U) grade set
   pub other : (node.op ≡ 8 → ⊥) → grade ≡ given
 
--- child i of those that a node has
-abbrev pub child_number : Seen → (i : ℕ) → ℕ
+-- child i of a node, if it lists so many
+abbrev pub child_number : Seen → (i : ℕ) → Option ℕ
 child_number r zero = r.x
 child_number r (suc zero) = r.y
-child_number r (suc (suc i)) = r.z
+child_number r (suc (suc zero)) = r.z
+child_number r (suc (suc (suc i))) = None
 
 pub record SeenAt (t : List ℕ) (at : Place) (r : Seen) : Type 0 where
-  pub op : r.op ≡ (node_here (program_in t) (place_of at)).op
+  pub op : r.op ≡ op_named (node_here (program_in t) (place_of at)).op
   pub whole : r.whole ≡ grade_at (program_in t) (place_of at)
   pub count : r.count ≡ length (parts_at (program_in t) (place_of at))
   pub size : length r.grades ≡ 4
   pub few : r.count ≤ 4
   pub graded : (i : ℕ) → i < r.count → get_or r.grades i 0 ≡ part_grade_at (program_in t) (place_of at) (part_at (parts_at (program_in t) (place_of at)) i)
-  pub children : (i : ℕ) → i < r.listed → part_at (parts_at (program_in t) (place_of at)) i ≡ child (child_number r i) r.under
-  pub listed : r.listed ≤ r.count
-  pub owned : (i : ℕ) → r.listed ≤ i → i < r.count → part_at (parts_at (program_in t) (place_of at)) i ≡ own r.own
+  pub parts : (i : ℕ) → i < r.count
+      → MatchOption (child_number r i) (part_at (parts_at (program_in t) (place_of at)) i ≡ own r.own)
+      (λ c. part_at (parts_at (program_in t) (place_of at)) i ≡ child c r.under)
   pub entry : op_of (node_here (program_in t) (place_of at)).op ≡ call
       → r.own ≡ callee_entry (method_at (program_in t) (node_here (program_in t) (place_of at)).U).k (tables_before (program_in t) at.round (node_here (program_in t) (place_of at)).U) (node_here (program_in t) (place_of at)).names at.set
   pub called : op_of (node_here (program_in t) (place_of at)).op ≡ call
@@ -92,12 +94,12 @@ pub record SeenAt (t : List ℕ) (at : Place) (r : Seen) : Type 0 where
 
 -- ---- where it goes on
 
-abbrev pub next_by : (on : Bool) (to : Place) → Next
-next_by true to = goes_on (place_of to)
-next_by false to = ends
+abbrev pub next_by : (to : Option Place) → Next
+next_by (Some to) = goes_on (place_of to)
+next_by None = ends
 
 -- a turn, with the frame of the next place's method
 pub record TurnOf (t : List ℕ) (turn : steps.Turn) (r : Onward) : Type 0 where
   pub rule : r.rule ≡ turn.rule
-  pub next : next_by r.on r.to ≡ turn.next
-  pub to : T r.on → At t r.to.method r.to.first
+  pub next : next_by r.to ≡ turn.next
+  pub to : IfSome r.to (λ to. At t to.method to.first)

@@ -1,6 +1,6 @@
 -- What walking a chain comes to.
 -- Assumes nothing.
-use Rattle.std.specs.Prelude.{ℕ, not, cond, List, [], ◌∷◌, map, ◌≡◌, T, eqb, length}
+use Rattle.std.specs.Prelude.{ℕ, cond, List, [], ◌∷◌, map, ◌≡◌, Option, Some, None, IfSome, T, eqb, length}
 use Rattle.frames.specs.Program.{method_at}
 use Rattle.meaning.specs.Meaning.{root_of}
 use Rattle.meaning.specs.Constraints.{Entry}
@@ -18,8 +18,8 @@ use Rattle.explainer.specs.Code.Places.{place_of, PlaceIn, NodeLower, next_by}
 -- the step at a place, and where the chain goes on
 pub record StepIs (t : List ℕ) (at : Place) (r : Advanced) : Type 0 where
   pub step : r.step ≡ step_of (step_at (program_in t) (place_of at))
-  pub next : next_by r.on r.next ≡ (turn_at (program_in t) (place_of at)).next
-  pub placed : T r.on → PlaceIn t r.next
+  pub next : next_by r.next ≡ (turn_at (program_in t) (place_of at)).next
+  pub placed : IfSome r.next (PlaceIn t)
 
 -- ---- chains, and the one step of a declared method that is asked for, which stands at round 0
 
@@ -45,8 +45,12 @@ pub record Entered (t : List ℕ) (walk : Walk) (lower : List ℕ) : Type 0 wher
   pub size : length lower ≡ lower_length
   pub known : T walk.entered → NodeLower t walk.at lower
 
+-- the steps from where a chain goes on; none where it ends
+abbrev pub rest_of : List ℕ → Option Walk → List Step
+rest_of t (Some walk) = chain_of t walk.at
+rest_of t None = []
+
 -- one step, and those behind it
 pub record GivenAt (t noted : List ℕ) (walk : Walk) (r : Given) : Type 0 where
-  pub on : T r.on → chain_of t walk.at ≡ r.step ∷ chain_of t r.next.at
-  pub last : T (not r.on) → chain_of t walk.at ≡ r.step ∷ []
-  pub going : T r.on → Going t noted r.next
+  pub chain : chain_of t walk.at ≡ r.step ∷ rest_of t r.next
+  pub going : IfSome r.next (Going t noted)

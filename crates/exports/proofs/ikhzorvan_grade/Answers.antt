@@ -3,7 +3,6 @@
 use mathlib.Core.Path.{sym, ap, ◌∙◌}
 use lib.ListN.{length}
 use Rattle.checker.specs.Grading.{numbers_of}
-use Rattle.checker.specs.declared.Verdict.{Verdict}
 use Rattle.exports.specs.Record.{record_of}
 use Rattle.exports.specs.Laws.Record.{wrong-returned, wrong-answered, wrong-recorded, right-returned, right-answered, right-recorded}
 use Rattle.exports.proofs.ikhzorvan_grade.Goals as goal
@@ -17,6 +16,11 @@ pub returns : goal.returns
 returns c = let a = c.args in
     let text = a.text.now in
     let n = length a.answer.now in
-    let grade = c.grade-verdict.ensures in
-    let put = c.put_verdict.ensures in
-    let right = c.if-page-ne11.false in record { value = put.value ∙ ap (λ (v : Verdict). (numbers_of v).number) grade.value ∙ sym (right-returned text n (length a.page.now) right); answer_after = grade.answer_after ∙ sym (right-answered text a.answer.now (length a.page.now) right); page_after = put.page_after ∙ ap (λ (v : Verdict). record_of (numbers_of v)) grade.value ∙ sym (right-recorded text n a.page.now right) }
+    let grade = c.grade.ensures in
+    let told = c.numbers_of-numbers.ensures ∙ ap numbers_of grade.value in
+    let right = c.if-page-ne11.false in
+    record {
+      value = ap (λ n. n.number) told ∙ sym (right-returned text n (length a.page.now) right);
+      answer_after = grade.answer_after ∙ sym (right-answered text a.answer.now (length a.page.now) right);
+      page_after = c.copy_from_slice.ensures.after ∙ c.record.ensures ∙ ap record_of told ∙ sym (right-recorded text n a.page.now right);
+    }

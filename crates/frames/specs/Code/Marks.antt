@@ -1,6 +1,6 @@
 -- How the reader keeps what a method has named so far: a list of marks, 1 for a node that is named. `Links` says what it means.
 -- Assumes nothing.
-use Rattle.std.specs.Prelude.{ℕ, ◌-◌, ◌≡◌, Bool, true, not, ◌&&◌, List, [], ◌∷◌, ltb, eqb, get_or, set}
+use Rattle.std.specs.Prelude.{ℕ, ◌-◌, ◌≡◌, Bool, true, not, ◌&&◌, List, [], ◌∷◌, ltb, eqb, get_or, set, Option, Some, None}
 use Rattle.frames.specs.Layout.{layout}
 use Rattle.frames.specs.Frames.{Frames, method_frame, first_method}
 use Rattle.frames.specs.Links.{children_of, names_linked, method_linked}
@@ -20,6 +20,11 @@ fresh_in n marks (c ∷ cs) = unmarked n marks c && fresh_in n (set marks c 1) c
 unfoldable pub marked : List ℕ → List ℕ → List ℕ
 marked marks [] = marks
 marked marks (c ∷ cs) = marked (set marks c 1) cs
+
+-- the child that there may be
+abbrev pub list_of : Option ℕ → List ℕ
+list_of (Some c) = c ∷ []
+list_of None = []
 
 -- what naming some children comes to
 pub record Named (r : Bool) (n : ℕ) (before after children : List ℕ) : Type 0 where

@@ -1,6 +1,6 @@
 -- One line more: what the reader's step gives is the line's fault, and where there is none, what the reader carries holds again.
 -- Assumes nothing.
-use Rattle.std.specs.Prelude.{ℕ, suc, ◌+◌, ◌-◌, ◌≤◌, ◌<◌, ◌≡◌, Bool, true, false, cond, ◌&&◌, ◌⊎◌, eqb, length}
+use Rattle.std.specs.Prelude.{ℕ, suc, ◌+◌, ◌-◌, ◌≤◌, ◌<◌, ◌≡◌, Bool, true, false, cond, ◌&&◌, ◌⊎◌, eqb, length, Some, None}
 use Rattle.std.proofs.Math.Path.{refl, ap, sym, fun_ext}
 use Rattle.std.proofs.Common.{◌∙◌, inl, inr, le_refl, add-one, lt-ltb, eq-eqb, ne_eqb, ltb-true}
 use mathlib.Core.List.{List, []}
@@ -20,14 +20,14 @@ use Rattle.frames.specs.Laws.Owners.{owner-is, number_is}
 use Rattle.frames.specs.Laws.Agree.{agree-due, agree-range, agree-method, agree-fields, agree-method-linked, agree-names}
 use Rattle.frames.specs.Laws.Sound.{header-sound, method-sound, total-sound}
 use Rattle.frames.specs.Laws.Stored.{stored-holds}
-use Rattle.frames.specs.Laws.Steps.{due-header, due-field, due-method, due-node, due-end, placed-short, next-over, next-on, is-end-false}
+use Rattle.frames.specs.Laws.Steps.{due-header, due-field, due-method, due-node, due-end, placed-short, next-over, next-on}
 use Rattle.frames.specs.Laws.Tables.{nodes-before-more}
 use Rattle.frames.specs.Tables.{cell}
 use Rattle.frames.specs.Reading.{fault_of, fault_at}
-use Rattle.frames.specs.Code.Steps.{fault_by, stored, line_fault, next_stand, marks_of, first_frames, is_end, Going}
+use Rattle.frames.specs.Code.Steps.{fault_by, stored, line_fault, next_stand, marks_of, first_frames, Going}
 use Rattle.frames.specs.declared.Due.{Due}
 use Rattle.frames.specs.declared.Due.TheVariants.{Header, Field, Method, Node, End}
-use Rattle.frames.specs.declared.Fault.TheVariants.{Sound, Malformed, Misplaced, OutOfRange, Unlinked}
+use Rattle.frames.specs.declared.Fault.TheVariants.{Malformed, Misplaced, OutOfRange, Unlinked}
 use Rattle.frames.specs.declared.Stand.{Stand}
 use Rattle.counting.specs.Counting.{zeros}
 use Rattle.counting.specs.Laws.Tests.{lt-or-le}
@@ -73,8 +73,8 @@ module _ {text : List ℕ} {ls : List (List ℕ)} {t N : List ℕ} {at line i : 
   pub going-is : (d : Due) → d ≡ due (cell t) i → due (frames_of ls) i ≡ d
   going-is d e = sym (e ∙ going-due)
 
-  pub going-open : (d : Due) → d ≡ due (cell t) i → is_end d ≡ false → due (frames_of ls) i ≡ End → ⊥
-  going-open d e f h = is-end-false d f (sym (going-is d e) ∙ h)
+  pub going-open : (d : Due) → d ≡ due (cell t) i → (d ≡ End → ⊥) → due (frames_of ls) i ≡ End → ⊥
+  going-open d e f h = f (sym (going-is d e) ∙ h)
 
   -- the tables have room for the frame
   pub going-low : (due (frames_of ls) i ≡ End → ⊥) → i < layout.most_frames
@@ -174,7 +174,7 @@ module _ {text : List ℕ} {ls : List (List ℕ)} {t N : List ℕ} {at line i : 
     going-linked End e = refl
 
     pub going-tested : (d : Due) → due (frames_of ls) i ≡ d
-        → fault_by g N d i s.method s.number ≡ cond (in_range (frames_of ls) d i) (cond (linked (frames_of ls) d i) Sound Unlinked) OutOfRange
+        → fault_by g N d i s.method s.number ≡ cond (in_range (frames_of ls) d i) (cond (linked (frames_of ls) d i) None (Some Unlinked)) (Some OutOfRange)
     unfolding fault_by
     going-tested d e = rw (agree-range (frames_of ls) g i same d, going-linked d e)
 
@@ -197,8 +197,8 @@ module _ {text : List ℕ} {ls : List (List ℕ)} {t N : List ℕ} {at line i : 
   pub going-fault : line_fault l d t N i s.method s.number ≡ fault_at ls i
   unfolding line_fault fault_at fault_of
   going-fault =
-      cond_same (well_formed l) _ _ Malformed
-      (λ w. cond_same (placed d l) _ _ Misplaced (λ p. going-tested go (cell (stored t i l)) (line_same w p) d is))
+      cond_same (well_formed l) _ _ (Some Malformed)
+      (λ w. cond_same (placed d l) _ _ (Some Misplaced) (λ p. going-tested go (cell (stored t i l)) (line_same w p) d is))
       ∙ (ap (λ (k : List ℕ). fault_of (frames_of ls) d i k) its ∙ ap (λ (x : Due). fault_of (frames_of ls) x i (get_or ls i [])) (sym is))
 
 -- where the next node stands, and what its method has named

@@ -1,6 +1,6 @@
 -- One text: how reading starts, goes on and ends.
 -- Assumes nothing.
-use Rattle.std.specs.Prelude.{ℕ, zero, suc, ◌+◌, ◌-◌, ◌*◌, ◌/◌, ◌%◌, ◌≤◌, ◌<◌, ◌≡◌, refl, Bool, true, false, cond, ◌&&◌, ltb, take}
+use Rattle.std.specs.Prelude.{ℕ, zero, suc, ◌+◌, ◌-◌, ◌*◌, ◌/◌, ◌%◌, ◌≤◌, ◌<◌, ◌≡◌, refl, Bool, true, false, cond, ◌&&◌, eqb, ltb, take, Option, Some, None}
 use Rattle.std.proofs.Common.{zero-le, ◌∙◌, le_refl, not-suc-le-zero, add-one, drop_of_length-le, le-ltb}
 use Rattle.std.proofs.Math.Path.{ap, sym}
 use mathlib.Core.List.{List, []}
@@ -16,23 +16,22 @@ use Rattle.frames.specs.Laws.Sound.{sound-passes, header-sound, sound_more}
 use Rattle.frames.specs.Laws.Steps.{placed-short}
 use Rattle.frames.specs.Laws.Tables.{cell_in}
 use Rattle.frames.specs.Tables.{cell, table_of}
-use Rattle.frames.specs.Reading.{fault_of, fault_at, read_one, read_from, Stop, on_due, on_fault, ended, outcome_of, no_tables}
+use Rattle.frames.specs.Reading.{fault_of, fault_at, read_one, read_from, Stop, on_due, on_fault, ended, refusal_of}
 use Rattle.lines.specs.Laws.Places.{past-line-at, past-line-line}
-use Rattle.frames.specs.Code.Steps.{stored, next_stand, first_frames, Going, one_table, OneRead}
-use Rattle.frames.specs.Laws.Going.{going_on, standing-next, none_named, going-low, line-holds, line_same}
+use Rattle.frames.specs.Code.Marks.{marked_by}
+use Rattle.frames.specs.Code.Steps.{stored, next_stand, first_frames, Going, Taken, OneWhole, OneRefused}
+use Rattle.frames.specs.Laws.Going.{going_on, standing-next, none_named, going-is, going-open, going-low, going-fault, line-holds, line_same}
 use Rattle.frames.specs.declared.Due.{Due}
 use Rattle.frames.specs.declared.Due.TheVariants.{Header, Field, Method, Node, End}
 use Rattle.frames.specs.declared.Fault.{Fault}
-use Rattle.frames.specs.declared.Fault.TheVariants.{Sound, Malformed, Misplaced, OutOfRange, Unlinked}
+use Rattle.frames.specs.declared.Fault.TheVariants.{Misplaced}
 use Rattle.frames.specs.declared.Stand.{Stand}
-use Rattle.frames.specs.declared.OneText.{OneText}
 use Rattle.lines.specs.declared.Place.{Place}
-use Rattle.frames.specs.declared.Tables.{Tables}
 use Rattle.counting.specs.Counting.{zeros, tabulate}
 use Rattle.frames.specs.Laws.Stored.{stored-length}
 use Rattle.counting.specs.Laws.Lists.{length-zeros, get_or-zeros, length-tabulate, get_or-tabulate}
 use Rattle.lines.specs.Places.{past_line}
-use Rattle.frames.specs.declared.Outcome.TheVariants as Outcome
+use Rattle.frames.specs.declared.Refusal.{Refusal}
 
 -- reading on, by what is due and the fault
 on-due : (d : Due) (i : ℕ) (r : Stop) → (d ≡ End → ⊥) → on_due d i r ≡ r
@@ -42,52 +41,45 @@ on-due Method i r h = refl
 on-due Node i r h = refl
 on-due End i r h = absurd (h refl)
 
-pub on-fault : (x : Fault) (i : ℕ) (r : Stop) → (x ≡ Sound → ⊥) → on_fault x i r ≡ record { fault = x; before = i }
-on-fault Sound i r h = absurd (h refl)
-on-fault Malformed i r h = refl
-on-fault Misplaced i r h = refl
-on-fault OutOfRange i r h = refl
-on-fault Unlinked i r h = refl
-
-ended-early : (d : Due) → (d ≡ End → ⊥) → ended d ≡ Misplaced
+ended-early : (d : Due) → (d ≡ End → ⊥) → ended d ≡ Some Misplaced
 ended-early Header h = refl
 ended-early Field h = refl
 ended-early Method h = refl
 ended-early Node h = refl
 ended-early End h = absurd (h refl)
 
-from_end : (ls : List (List ℕ)) (i n : ℕ) → due (frames_of ls) i ≡ End → read_from ls i n ≡ record { fault = Sound; before = i }
+from_end : (ls : List (List ℕ)) (i n : ℕ) → due (frames_of ls) i ≡ End → read_from ls i n ≡ record { fault = None; before = i }
 unfolding read_from
 from_end ls i zero e = ap (λ (d : Due). record { fault = ended d; before = i }) e
 from_end ls i (suc n) e = ap (λ (d : Due). on_due d i (on_fault (fault_at ls i) i (read_from ls (suc i) n))) e
 
 module _ {text : List ℕ} {ls : List (List ℕ)} {t N : List ℕ} {at line i : ℕ} {s : Stand} (go : Going text ls t N at line i s) where
   -- the end is due
-  pub one-whole : due (frames_of ls) i ≡ End → read_one ls ≡ record { fault = Sound; before = i }
+  pub one-whole : due (frames_of ls) i ≡ End → read_one ls ≡ record { fault = None; before = i }
   one-whole e = go.same (length ls - i) (omega (arith, go.inside)) ∙ from_end ls i (length ls - i) e
 
   -- the text is at its end, and a frame is due
-  pub one-short : (due (frames_of ls) i ≡ End → ⊥) → length text ≤ at → read_one ls ≡ record { fault = Misplaced; before = i }
+  pub one-short : (due (frames_of ls) i ≡ End → ⊥) → length text ≤ at → read_one ls ≡ record { fault = Some Misplaced; before = i }
   unfolding read_from lines
   one-short h o =
       let e : drop i ls ≡ [] = sym go.rest ∙ ap lines (drop_of_length-le text o) in
       go.same 0 (omega (arith, go.inside, length-drop i ls, ap length e))
-      ∙ ap (λ (x : Fault). record { fault = x; before = i }) (ended-early (due (frames_of ls) i) h)
+      ∙ ap (λ (x : Option Fault). record { fault = x; before = i }) (ended-early (due (frames_of ls) i) h)
 
   -- the line has a fault
-  pub one-stops : (due (frames_of ls) i ≡ End → ⊥) → at < length text → (x : Fault) → x ≡ fault_at ls i → (x ≡ Sound → ⊥)
-      → read_one ls ≡ record { fault = x; before = i }
+  pub one-stops : (due (frames_of ls) i ≡ End → ⊥) → at < length text → (x : Fault) → fault_at ls i ≡ Some x
+      → read_one ls ≡ record { fault = Some x; before = i }
   unfolding read_from
-  one-stops h l x e m =
+  one-stops h l x e =
       let n = length ls - (i + 1) in
       let r = read_from ls (suc i) n in
       let w = line_at text ls at i l go.rest in
       go.same (suc n) (omega (arith, w.inside))
       ∙ (on-due (due (frames_of ls) i) i (on_fault (fault_at ls i) i r) h
-      ∙ (ap (λ (y : Fault). on_fault y i r) (sym e) ∙ on-fault x i r m))
+      ∙ ap (λ (y : Option Fault). on_fault y i r) e)
 
   -- the line is sound: what the reader carries holds again
-  pub one-goes-on : (l : List ℕ) → l ≡ get_or ls i [] → (d : Due) → due (frames_of ls) i ≡ d → (d ≡ End → ⊥) → fault_at ls i ≡ Sound
+  pub one-goes-on : (l : List ℕ) → l ≡ get_or ls i [] → (d : Due) → due (frames_of ls) i ≡ d → (d ≡ End → ⊥) → fault_at ls i ≡ None
       → (at' line' : ℕ) → lines (drop at' text) ≡ drop (i + 1) ls → i + 1 ≤ length ls → line' ≡ line + 1
       → (t' : List ℕ) → t' ≡ stored t i l → (s' : Stand) → s' ≡ next_stand (cell t') d s → (N' : List ℕ) → N' ≡ going_on (cell t') N d i s'
       → Going text ls t' N' at' line' (i + 1) s'
@@ -109,7 +101,7 @@ module _ {text : List ℕ} {ls : List (List ℕ)} {t N : List ℕ} {at line i : 
         same = λ n h.
             go.same (suc n) (omega arith)
             ∙ (on-due (due f i) i (on_fault (fault_at ls i) i (read_from ls (suc i) n)) (λ e. more (sym is ∙ e))
-            ∙ (ap (λ (y : Fault). on_fault y i (read_from ls (suc i) n)) sound ∙ ap (λ (k : ℕ). read_from ls k n) (sym (add-one i))));
+            ∙ (ap (λ (y : Option Fault). on_fault y i (read_from ls (suc i) n)) sound ∙ ap (λ (k : ℕ). read_from ls k n) (sym (add-one i))));
         stands = st.stands;
         within = st.within;
         owned = st.owned;
@@ -160,35 +152,24 @@ one-starts text start t N et en =
     }
 
 -- what one text comes to
-not-sound-table : (x : Fault) (n : ℕ) (ls : List (List ℕ)) → (x ≡ Sound → ⊥) → no_tables.bytes ≡ one_table x n ls
-unfolding no_tables
-not-sound-table Sound n ls h = absurd (h refl)
-not-sound-table Malformed n ls h = refl
-not-sound-table Misplaced n ls h = refl
-not-sound-table OutOfRange n ls h = refl
-not-sound-table Unlinked n ls h = refl
-
-pub one-refused : (text : List ℕ) (ls : List (List ℕ)) (x : Fault) (i : ℕ) (r : OneText) → read_one ls ≡ record { fault = x; before = i } → (x ≡ Sound → ⊥)
-    → r.outcome ≡ outcome_of x i → r.tables ≡ no_tables → OneRead text ls r
-one-refused text ls x i r e h o t =
-    let ef = ap (λ (q : Stop). q.fault) e in
+pub one-refused : {ls : List (List ℕ)} (x : Fault) (i : ℕ) (r : Refusal) → read_one ls ≡ record { fault = Some x; before = i } → r ≡ refusal_of x i → OneRefused ls r
+one-refused x i r e o =
     record {
-      outcome = o ∙ sym (ap (λ (q : Stop). outcome_of q.fault q.before) e);
-      table = ap (λ (q : Tables). q.bytes) t ∙ (not-sound-table x i ls h ∙ sym (ap (λ (q : Stop). one_table q.fault q.before ls) e));
-      rest = λ p. absurd (h (sym ef ∙ p));
-      line = λ p. absurd (h (sym ef ∙ p));
+      fault = x;
+      found = ap (λ (q : Stop). q.fault) e;
+      refusal = o ∙ sym (ap (λ (q : Stop). refusal_of x q.before) e);
     }
 
 pub one-read-whole : {text : List ℕ} {ls : List (List ℕ)} {t N : List ℕ} {at line i : ℕ} {s : Stand} → Going text ls t N at line i s
     → due (frames_of ls) i ≡ End
-    → OneRead text ls (record { outcome = Outcome.Whole; tables = record { bytes = t }; after = record { at = at; line = line } })
+    → OneWhole text ls (record { tables = record { bytes = t }; after = record { at = at; line = line } })
 one-read-whole {text} {ls} {t} {N} {at} {line} {i} {s} go e =
     let w = one-whole go e in
     record {
-      outcome = sym (ap (λ (q : Stop). outcome_of q.fault q.before) w);
-      table = one_table_lem go ∙ sym (ap (λ (q : Stop). one_table q.fault q.before ls) w);
-      rest = λ p. go.rest ∙ sym (ap (λ (q : Stop). drop q.before ls) w);
-      line = λ p. go.counted ∙ sym (ap (λ (q : Stop). q.before + 1) w);
+      sound = ap (λ (q : Stop). q.fault) w;
+      table = one_table_lem go ∙ sym (ap (λ (q : Stop). table_of (first_frames q.before (frames_of ls))) w);
+      rest = go.rest ∙ sym (ap (λ (q : Stop). drop q.before ls) w);
+      line = go.counted ∙ sym (ap (λ (q : Stop). q.before + 1) w);
     }
 
 -- the place after the line that is read
@@ -225,6 +206,36 @@ next-rest text ls p next i l e n = ap (λ (m : ℕ). lines (drop m text)) n.is �
 
 -- a sound line makes the header's numbers known
 pub going-method : {text : List ℕ} {ls : List (List ℕ)} {t N : List ℕ} {at line i : ℕ} {s : Stand} → Going text ls t N at line i s
-    → fault_at ls i ≡ Sound → s.method ≤ layout.most_methods
+    → fault_at ls i ≡ None → s.method ≤ layout.most_methods
 going-method {text} {ls} {t} {N} {at} {line} {i} {s} go sound =
     omega (arith, go.owned, (header-sound ls (suc i) (sound_more ls i go.clean sound) (omega arith)).methods_high)
+
+-- one turn of the reader: a frame is due, and a line is left
+module _ {text : List ℕ} {ls : List (List ℕ)} {t N : List ℕ} {s : Stand} {d : Due} (p : Place) (go : Going text ls t N p.at p.line (p.line - 1) s)
+    (found : d ≡ due (cell t) (p.line - 1)) (more : d ≡ End → ⊥) where
+  pub turn-open : due (frames_of ls) (p.line - 1) ≡ End → ⊥
+  turn-open = going-open go d found more
+
+  module _ {next : Place} (l : p.at < length text) (e : next ≡ past_line text p) where
+    pub turn-next : NextAt text p next
+    turn-next = next-at p next go turn-open l e
+
+    turn-line : take (next.at - p.at) (drop p.at text) ≡ get_or ls (p.line - 1) []
+    turn-line = lent-line text ls p next (p.line - 1) l go.rest turn-next
+
+    module _ {r : Option Fault} {t' N₁ : List ℕ} (took : Taken r (take (next.at - p.at) (drop p.at text)) d t t' N N₁ (p.line - 1) s.method s.number) where
+      -- what the line comes to is its fault
+      pub turn-fault : r ≡ fault_at ls (p.line - 1)
+      turn-fault = took.is ∙ going-fault go _ turn-line d (going-is go d found) more
+
+      -- without one, what the reader carries holds again
+      pub turn-goes-on : r ≡ None → (s' : Stand) → s' ≡ next_stand (cell t') d s → (N' : List ℕ) → N' ≡ cond (eqb s'.number 0) (zeros layout.most_nodes) N₁
+          → Going text ls t' N' next.at next.line (next.line - 1) s'
+      turn-goes-on ok s' es N' en =
+          let i = p.line - 1 in
+          let w = line_at text ls p.at i l go.rest in
+          let tb = took.tables ok in
+          let counted : next.line - 1 ≡ i + 1 = omega (arith, go.counted, turn-next.line) in
+          let marks = took.marks ok ∙ ap (λ (u : List ℕ). marked_by (cell u) N d i) (sym tb) in
+          rw counted (one-goes-on go _ turn-line d (going-is go d found) more (sym turn-fault ∙ ok) _ _ (next-rest text ls p next i l go.rest turn-next) w.inside turn-next.line
+          _ tb s' es N' (en ∙ ap (λ (x : List ℕ). cond (eqb s'.number 0) (zeros layout.most_nodes) x) marks))

@@ -1,6 +1,6 @@
 -- What sound lines show: a prefix of the lines without a fault has frames in range that hang together.
 -- Assumes nothing.
-use Rattle.std.specs.Prelude.{suc, ℕ, ◌+◌, ◌-◌, ◌≤◌, ◌<◌, ◌≡◌, refl, Bool, true, false, cond, ◌&&◌, List, [], ◌⊎◌, leb, eqb, get_or}
+use Rattle.std.specs.Prelude.{suc, ℕ, ◌+◌, ◌-◌, ◌≤◌, ◌<◌, ◌≡◌, refl, Bool, true, false, cond, ◌&&◌, List, [], ◌⊎◌, leb, eqb, get_or, Option, Some, None}
 use Rattle.std.proofs.Common.{ap, sym, ◌∙◌, inl, inr, ⊎_elim}
 use native.Mathlib.Omega.{arith}
 use borrow.Author.Tests.{ltb-true, leb-true, eqb-true}
@@ -15,7 +15,7 @@ use Rattle.frames.specs.Laws.Steps.{due-header, due-method, due-end, placed-long
 use Rattle.frames.specs.declared.Due.{Due}
 use Rattle.frames.specs.declared.Due.TheVariants.{Header, Method, End}
 use Rattle.frames.specs.declared.Fault.{Fault}
-use Rattle.frames.specs.declared.Fault.TheVariants.{Sound, Malformed, Misplaced, OutOfRange, Unlinked}
+use Rattle.frames.specs.declared.Fault.TheVariants.{Malformed, Misplaced, OutOfRange, Unlinked}
 use Rattle.counting.specs.Counting.{every}
 use Rattle.counting.specs.Laws.Tests.{and_left, and_right, lt-or-le}
 
@@ -26,13 +26,13 @@ pub record Passes (f : Frames) (d : Due) (i : ℕ) (l : List ℕ) : Type 0 where
   pub ranged : in_range f d i ≡ true
   pub is_linked : linked f d i ≡ true
 
-pub sound-passes : (f : Frames) (d : Due) (i : ℕ) (l : List ℕ) → fault_of f d i l ≡ Sound → Passes f d i l
+pub sound-passes : (f : Frames) (d : Due) (i : ℕ) (l : List ℕ) → fault_of f d i l ≡ None → Passes f d i l
 unfolding fault_of
 sound-passes f d i l e =
     let h = go (well_formed l) (placed d l) (in_range f d i) (linked f d i) e in
     record { formed = h.0; is_placed = h.1; ranged = h.2; is_linked = h.3 }
   where
-    go : (a b g h : Bool) → cond a (cond b (cond g (cond h Sound Unlinked) OutOfRange) Misplaced) Malformed ≡ Sound
+    go : (a b g h : Bool) → ◌≡◌ {A = Option Fault} (cond a (cond b (cond g (cond h None (Some Unlinked)) (Some OutOfRange)) (Some Misplaced)) (Some Malformed)) None
         → (a ≡ true) × (b ≡ true) × (g ≡ true) × (h ≡ true)
     go true true true true p = (refl, refl, refl, refl)
     go true true true false p = (cc, cc, cc, cc)
@@ -87,7 +87,7 @@ method-fits main r e =
     }
 
 -- one sound line more
-pub sound_more : (ls : List (List ℕ)) (i : ℕ) → ((j : ℕ) → j < i → fault_at ls j ≡ Sound) → fault_at ls i ≡ Sound → (j : ℕ) → j < suc i → fault_at ls j ≡ Sound
+pub sound_more : (ls : List (List ℕ)) (i : ℕ) → ((j : ℕ) → j < i → fault_at ls j ≡ None) → fault_at ls i ≡ None → (j : ℕ) → j < suc i → fault_at ls j ≡ None
 sound_more ls i clean e j h =
     ⊎_elim
     (λ (l : j < i). clean j l)
@@ -95,15 +95,16 @@ sound_more ls i clean e j h =
     (lt-or-le j i)
 
 -- a fault is none, or it is one
-pub sound-or : (x : Fault) → (x ≡ Sound) ⊎ (x ≡ Sound → ⊥)
-sound-or Sound = inl refl
-sound-or Malformed = inr (λ p. let z : ◌≡◌ {A = ℕ} 0 1 = cc in omega arith)
-sound-or Misplaced = inr (λ p. let z : ◌≡◌ {A = ℕ} 0 1 = cc in omega arith)
-sound-or OutOfRange = inr (λ p. let z : ◌≡◌ {A = ℕ} 0 1 = cc in omega arith)
-sound-or Unlinked = inr (λ p. let z : ◌≡◌ {A = ℕ} 0 1 = cc in omega arith)
+pub sound-or : (x : Option Fault) → (x ≡ None) ⊎ ((y : Fault) × (x ≡ Some y))
+sound-or None = inl refl
+sound-or (Some y) = inr (y, refl)
+
+-- not both
+pub never-sound : {x : Option Fault} (y : Fault) → x ≡ Some y → x ≡ None → ⊥
+never-sound y e p = let z : ◌≡◌ {A = ℕ} 0 1 = cc in omega arith
 
 -- a prefix of i sound lines
-module _ (ls : List (List ℕ)) (i : ℕ) (clean : (j : ℕ) → j < i → fault_at ls j ≡ Sound) where
+module _ (ls : List (List ℕ)) (i : ℕ) (clean : (j : ℕ) → j < i → fault_at ls j ≡ None) where
   pub passes_at : (j : ℕ) (d : Due) → j < i → due (frames_of ls) j ≡ d → Passes (frames_of ls) d j (get_or ls j [])
   unfolding fault_at
   passes_at j d h e =

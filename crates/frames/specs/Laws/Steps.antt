@@ -1,6 +1,6 @@
 -- Laws of the reader's private steps.
 -- Assumes nothing.
-use Rattle.std.specs.Prelude.{ℕ, ◌+◌, ◌*◌, ◌≤◌, ◌<◌, ◌≡◌, refl, Bool, cond, eqb, get_or}
+use Rattle.std.specs.Prelude.{ℕ, ◌+◌, ◌*◌, ◌≤◌, ◌<◌, ◌≡◌, refl, Bool, cond, eqb, get_or, Option, Some, None}
 use Rattle.std.proofs.Math.Path.{ap, sym}
 use Rattle.std.proofs.Common.{◌∙◌, arith}
 use Rattle.std.proofs.Math.Bool.{true, false}
@@ -8,27 +8,21 @@ use mathlib.Core.List.{List}
 use Rattle.std.proofs.Math.Dec.{ltb}
 use Rattle.std.proofs.Math.Seq.{paste}
 use borrow.Author.Tests.{lt-ltb, le-ltb, eq-eqb, ne_eqb, eqb-true}
-use Rattle.frames.specs.Layout.{layout, tables_length}
+use Rattle.frames.specs.Layout.{layout}
 use Rattle.lines.specs.Lines.{bytes, frame_length, well_formed}
 use Rattle.frames.specs.Frames.{Frames, due, placed, kind_of, length_of, first_method, first_node, all_frames}
 use Rattle.frames.specs.Ranges.{in_range}
 use Rattle.frames.specs.Links.{node_count}
 use Rattle.frames.specs.Code.Marks.{linked_by, marked_by, Linked}
 use Rattle.frames.specs.Tables.{cell}
-use Rattle.frames.specs.Reading.{lowest_fault, no_tables}
-use Rattle.frames.specs.Code.Steps.{fault_by, line_fault, Taken, next_node, is_end, is_sound}
-use Rattle.frames.specs.declared.Tables.{Tables}
+use Rattle.frames.specs.Reading.{lowest_fault}
+use Rattle.frames.specs.Code.Steps.{stored, fault_by, line_fault, Taken, next_node}
 use Rattle.frames.specs.declared.Due.{Due}
 use Rattle.frames.specs.declared.Due.TheVariants.{Header, Field, Method, Node, End}
 use Rattle.frames.specs.declared.Fault.{Fault}
-use Rattle.frames.specs.declared.Fault.TheVariants.{Sound, Malformed, Misplaced, OutOfRange, Unlinked}
+use Rattle.frames.specs.declared.Fault.TheVariants.{Malformed, Misplaced, OutOfRange, Unlinked}
 use Rattle.frames.specs.declared.Stand.{Stand}
 use Rattle.counting.specs.Laws.Tests.{and_left}
-use Rattle.counting.specs.Counting.{zeros}
-
-pub empty-is : (b : List ℕ) → b ≡ zeros tables_length → ◌≡◌ {A = Tables} (record { bytes = b }) no_tables
-unfolding no_tables
-empty-is b e = λ i. record { bytes = e i }
 
 -- what is due, by number
 module _ (f : Frames) (i : ℕ) where
@@ -61,13 +55,13 @@ pub placed-kind : (d : Due) (l : List ℕ) (n : ℕ) → n ≡ frame_length l �
 unfolding placed
 placed-kind d l n e h = rw (eq-eqb (frame_length l) (length_of d) (sym e ∙ h))
 
-sound-linked : (b : Bool) → cond b Sound Unlinked ≡ Sound → b ≡ true
+sound-linked : (b : Bool) → ◌≡◌ {A = Option Fault} (cond b None (Some Unlinked)) None → b ≡ true
 sound-linked true e = refl
 sound-linked false e = cc
 
 -- refusals 3 to 6: the four tests, the last two over the tables with the line in them where it is of the kind and length due
 module _ (l : List ℕ) (d : Due) (t t' N N₁ : List ℕ) (i m n : ℕ) where
-  pub taken : (len : ℕ) (p a b : Bool) (r : Fault) → len ≡ frame_length l → p ≡ placed d l
+  pub taken : (len : ℕ) (p a b : Bool) (r : Option Fault) → len ≡ frame_length l → p ≡ placed d l
       → t' ≡ paste t (i * layout.stride) (bytes l) (cond p len 0) → a ≡ in_range (cell t') d i → Linked b (cell t') N N₁ d i m n
       → r ≡ lowest_fault (ltb 0 len) p a b → Taken r l d t t' N N₁ i m n
   unfolding line_fault fault_by well_formed
@@ -90,6 +84,46 @@ module _ (l : List ℕ) (d : Due) (t t' N N₁ : List ℕ) (i m n : ℕ) where
             tables = λ q. s;
             marks = λ q. eb.marks (sound-linked b (sym er ∙ q)) ∙ ap (λ (u : List ℕ). marked_by (cell u) N d i) s;
           }
+
+-- refusals 3 to 6, in this order; a line of the kind and length due stands in the tables before the last two are looked for
+module _ (l : List ℕ) (d : Due) (t N : List ℕ) (i m n : ℕ) where
+  pub taken-malformed : frame_length l ≡ 0 → Taken (Some Malformed) l d t t N N i m n
+  unfolding line_fault well_formed
+  taken-malformed e = record { is = sym (rw e); tables = λ q. cc; marks = λ q. cc }
+
+  module _ (some : frame_length l ≡ 0 → ⊥) where
+    formed : ltb 0 (frame_length l) ≡ true
+    formed = lt-ltb 0 (frame_length l) (omega arith)
+
+    pub taken-misplaced : placed d l ≡ false → Taken (Some Misplaced) l d t t N N i m n
+    unfolding line_fault well_formed
+    taken-misplaced e = record { is = sym (rw (formed, e)); tables = λ q. cc; marks = λ q. cc }
+
+    module _ (due-here : placed d l ≡ true) (t' : List ℕ) (s : t' ≡ stored t i l) where
+      pub taken-out-of-range : in_range (cell t') d i ≡ false → Taken (Some OutOfRange) l d t t' N N i m n
+      unfolding line_fault fault_by well_formed
+      taken-out-of-range e =
+          record { is = sym (rw (formed, due-here, sym (ap (λ (u : List ℕ). in_range (cell u) d i) s) ∙ e)); tables = λ q. cc; marks = λ q. cc }
+
+      module _ (ranged : in_range (cell t') d i ≡ true) (b : Bool) (N₁ : List ℕ) (links : Linked b (cell t') N N₁ d i m n) where
+        is-ranged : in_range (cell (stored t i l)) d i ≡ true
+        is-ranged = sym (ap (λ (u : List ℕ). in_range (cell u) d i) s) ∙ ranged
+
+        is-linked : linked_by (cell (stored t i l)) N d i m n ≡ b
+        is-linked = sym (links.is ∙ ap (λ (u : List ℕ). linked_by (cell u) N d i m n) s)
+
+        pub taken-unlinked : b ≡ false → Taken (Some Unlinked) l d t t' N N₁ i m n
+        unfolding line_fault fault_by well_formed
+        taken-unlinked e = record { is = sym (rw (formed, due-here, is-ranged, is-linked ∙ e)); tables = λ q. cc; marks = λ q. cc }
+
+        pub taken-sound : b ≡ true → Taken None l d t t' N N₁ i m n
+        unfolding line_fault fault_by well_formed
+        taken-sound e =
+            record {
+              is = sym (rw (formed, due-here, is-ranged, is-linked ∙ e));
+              tables = λ q. s;
+              marks = λ q. links.marks e ∙ ap (λ (u : List ℕ). marked_by (cell u) N d i) s;
+            }
 
 -- the next node
 pub next-over : (f : Frames) (s : Stand) → s.number + 1 ≡ node_count f s.method → ◌≡◌ {A = Stand} (record { method = s.method + 1; number = 0 }) (next_node f s)
@@ -117,24 +151,3 @@ placed-short d l e = omega (arith, placed-long d l e, length_most d)
 pub kept-fits : (d : Due) (l : List ℕ) (p : Bool) (len r : ℕ) → len ≡ frame_length l → p ≡ placed d l → r ≡ cond p len 0 → (r ≤ frame_length l) × (r ≤ layout.stride)
 kept-fits d l true len r is e h = (omega arith, omega (arith, placed-short d l (sym e)))
 kept-fits d l false len r is e h = (omega arith, omega arith)
-
--- the tests of what is due and of a fault
-pub is-end-true : (d : Due) → is_end d ≡ true → d ≡ End
-is-end-true Header e = cc
-is-end-true Field e = cc
-is-end-true Method e = cc
-is-end-true Node e = cc
-is-end-true End e = refl
-
-pub is-end-false : (d : Due) → is_end d ≡ false → d ≡ End → ⊥
-is-end-false d e h = let z : true ≡ false = sym (ap is_end h) ∙ e in let y : ◌≡◌ {A = ℕ} 0 1 = cc in omega arith
-
-pub is-sound-true : (x : Fault) → is_sound x ≡ true → x ≡ Sound
-is-sound-true Sound e = refl
-is-sound-true Malformed e = cc
-is-sound-true Misplaced e = cc
-is-sound-true OutOfRange e = cc
-is-sound-true Unlinked e = cc
-
-pub is-sound-false : (x : Fault) → is_sound x ≡ false → x ≡ Sound → ⊥
-is-sound-false x e h = let z : true ≡ false = sym (ap is_sound h) ∙ e in let y : ◌≡◌ {A = ℕ} 0 1 = cc in omega arith

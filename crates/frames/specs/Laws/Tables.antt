@@ -1,7 +1,7 @@
 -- Laws of the tables' cells, and of what the tables say of a method.
 -- Assumes nothing.
-use Rattle.std.specs.Prelude.{ℕ, zero, suc, ◌+◌, ◌*◌, ◌^◌, ◌≤◌, ◌<◌, min, ◌≡◌, refl, Bool, true, false, cond, ◌&&◌, List, ◌⊎◌, ltb, length, get_or}
-use Rattle.std.proofs.Common.{ap, ◌∙◌, ⊎_elim, arith, zero-add, suc-add, add-zero, add-one, lt-ltb, le-ltb}
+use Rattle.std.specs.Prelude.{ℕ, zero, suc, ◌+◌, ◌-◌, ◌*◌, ◌^◌, ◌≤◌, ◌<◌, min, ◌≡◌, refl, Bool, true, false, cond, ◌&&◌, List, ◌⊎◌, ltb, length, get_or}
+use Rattle.std.proofs.Common.{ap, sym, ◌∙◌, ⊎_elim, arith, zero-add, suc-add, add-zero, add-one, lt-ltb, le-ltb}
 use Rattle.std.proofs.Math.ListN.{get_or-eq_default}
 use Rattle.counting.specs.Laws.Lists.{get_or-past-tabulate, get_or-tabulate, length-tabulate}
 use Rattle.counting.specs.Laws.Tests.{lt-or-le}
@@ -49,6 +49,15 @@ nodes-before-past t (suc n) =
     ap (nodes_before (cell t)) (suc-add n layout.most_frames)
     ∙ (simp (cell-past-frame t (1 + cell t 0 2 + (n + layout.most_frames)) 2 (omega arith), cell-past-frame t (1 + cell t 0 2 + (n + layout.most_frames)) 3 (omega arith))
     (add-zero _ ∙ nodes-before-past t n))
+
+pub nodes_before_most : (t : List ℕ) (m : ℕ) → nodes_before (cell t) (min m layout.most_frames) ≡ nodes_before (cell t) m
+nodes_before_most t m =
+    ⊎_elim
+    (λ (l : m < layout.most_frames). ap (nodes_before (cell t)) (omega arith))
+    (λ (g : layout.most_frames ≤ m). let e : min m layout.most_frames ≡ layout.most_frames = omega arith in
+    let d : m ≡ (m - layout.most_frames) + layout.most_frames = omega arith in
+    ap (nodes_before (cell t)) e ∙ sym (ap (nodes_before (cell t)) d ∙ nodes-before-past t (m - layout.most_frames)))
+    (lt-or-le m layout.most_frames)
 
 -- an entry of a method's table, which has one for each held set
 pub table-entry : (f : Frames) (m h : ℕ) → h < min (2 ^ method_frame f m layout.k_at) layout.grades → get_or (method_of f m).table h 0 ≡ method_frame f m (5 + h)

@@ -1,6 +1,6 @@
 -- Laws of lines: the first line and the rest, and what a well-formed line has at each place.
 -- Assumes nothing.
-use Rattle.std.specs.Prelude.{ℕ, zero, suc, ◌+◌, ◌*◌, ◌/◌, ◌≤◌, ◌<◌, ◌≡◌, refl, Bool, true, false, cond, ◌&&◌, List, [], ◌∷◌, ◌⊎◌, ltb, eqb, length, get_or, take, drop}
+use Rattle.std.specs.Prelude.{ℕ, zero, suc, ◌+◌, ◌*◌, ◌/◌, ◌≤◌, ◌<◌, ◌≡◌, refl, Bool, true, false, cond, ◌&&◌, List, [], ◌∷◌, ◌⊎◌, ltb, eqb, length, get_or, take, drop, Option, Some, None, MatchOption, is_some}
 use Rattle.std.proofs.Common.{ap, sym, ◌∙◌, inl, inr, arith, le_of_suc-le-suc, not-suc-le-zero, le_of_eq, add-zero, add-one, length-drop, drop_of_length-le, lt-ltb, le-ltb, le-leb, eq-eqb, ne_eqb, ltb-true, drop-cons, drop-drop, get_or-drop}
 use Rattle.std.proofs.Math.Numerals.{add-two}
 use Rattle.std.proofs.Math.ListN.{get_or-eq_default}
@@ -74,6 +74,12 @@ digits-at (c ∷ d ∷ l) (suc b) e h =
     rw (twice-suc-one b, twice-suc b)
     (digits-at l b (and_right (is_digit d) (paired l) (and_right (is_digit c) (is_digit d && paired l) e)) (le_of_suc-le-suc h))
 
+-- what a digit stands for, if the byte is one
+pub some-digit : (o : Option ℕ) (c : ℕ) → MatchOption o (digit c ≡ 16) (λ d. (d ≡ digit c) × (d < 16)) → is_some o ≡ is_digit c
+unfolding is_digit
+some-digit None c h = sym (le-ltb (digit c) 16 (omega (arith, h)))
+some-digit (Some d) c h = sym (lt-ltb (digit c) 16 (omega (arith, h.0, h.1)))
+
 -- a digit is below 16, or the byte is none
 pub digit-most : (c : ℕ) → digit c ≤ 16
 unfolding digit
@@ -120,6 +126,23 @@ pair-none l i h (inr b) = rw (drop-two l i h) (go (ltb (digit (get_or l i 0)) 16
     go : (x : Bool) → (x && (ltb (digit (get_or l (i + 1) 0)) 16 && paired (drop (i + 2) l))) ≡ false
     go true = simp (le-ltb _ _ (le_of_eq (sym b)))
     go false = refl
+
+-- pair i of a line, by the test of both its digits
+pub pair-step : (l : List ℕ) (i : ℕ) → 2 * i + 1 < length l → (is_digit (get_or l (2 * i) 0) && is_digit (get_or l (2 * i + 1) 0)) ≡ true
+    → (paired (drop (2 * i) l) ≡ paired (drop (2 * (i + 1)) l)) × (length (bytes (drop (2 * i) l)) ≡ suc (length (bytes (drop (2 * (i + 1)) l))))
+unfolding is_digit
+pair-step l i h e =
+    let n : 2 * (i + 1) ≡ 2 * i + 2 = omega arith in
+    rw n (pair-more l (2 * i) h (ltb-true _ _ (and_left _ (is_digit (get_or l (2 * i + 1) 0)) e)) (ltb-true _ _ (and_right (is_digit (get_or l (2 * i) 0)) _ e)))
+
+pub pair-fails : (l : List ℕ) (i : ℕ) → 2 * i + 1 < length l → (is_digit (get_or l (2 * i) 0) && is_digit (get_or l (2 * i + 1) 0)) ≡ false → paired (drop (2 * i) l) ≡ false
+unfolding paired
+pair-fails l i h e = rw (drop-two l (2 * i) h) (go (is_digit (get_or l (2 * i) 0)) (is_digit (get_or l (2 * i + 1) 0)) (paired (drop (2 * i + 2) l)) e)
+  where
+    go : (x y b : Bool) → (x && y) ≡ false → (x && (y && b)) ≡ false
+    go true true b f = cc
+    go true false b f = refl
+    go false y b f = refl
 
 -- the last byte, and none
 pub pair-last : (l : List ℕ) (i : ℕ) → i + 1 ≡ length l → (paired (drop i l) ≡ eqb (get_or l i 0) newline) × (length (bytes (drop i l)) ≡ 0)

@@ -1,9 +1,8 @@
 -- Laws of the session's lines, for tables that stand for a well-formed program.
 -- Assumes nothing.
-use Prim.Native.Nat.{ℕ, ◌+◌, ◌*◌, ◌^◌, ◌≤◌, ◌<◌, min}
-use Rattle.std.specs.Prelude.{◌≡◌, refl, List, [], ◌∷◌, ◌++◌, length, take, drop, replicate}
-use Rattle.std.proofs.Common.{ap, sym, ◌∙◌, arith, add-one, pow_mono}
-use Rattle.std.proofs.Math.Path.{subst⁻¹}
+use Prim.Native.Nat.{ℕ, zero, suc, ◌+◌, ◌*◌, ◌^◌, ◌≤◌, ◌<◌, min}
+use Rattle.std.specs.Prelude.{◌≡◌, refl, List, [], ◌∷◌, ◌++◌, length, take, drop, replicate, Result, Ok, Err}
+use Rattle.std.proofs.Common.{ap, sym, ◌∙◌, arith, length-append, add-one, pow_mono}
 use Rattle.std.proofs.Math.ListN.{length-drop}
 use Rattle.std.proofs.Math.Seq.{length-take-le}
 use Rattle.frames.specs.Layout.{layout, answer_length}
@@ -12,17 +11,15 @@ use Rattle.frames.specs.Tables.{cell, method_of, program_of}
 use Rattle.frames.specs.WellFormed.{WellFormed}
 use Rattle.frames.specs.Reading.{read_text}
 use Rattle.frames.specs.Promises.{tables-stand, read-well-formed}
-use Rattle.frames.specs.declared.Checked.{Checked}
-use Rattle.frames.specs.declared.Outcome.{Outcome}
+use Rattle.frames.specs.declared.Tables.{Tables}
+use Rattle.frames.specs.declared.Refusal.{Refusal as TextRefusal}
 use Rattle.meaning.specs.Lowest.{method_count}
 use Rattle.meaning.specs.Constraints.{Answer, accepted, refused, answer}
-use Rattle.checker.specs.Grading.{Numbers, program_read, by_answer, by_reading, verdict_of, answer_of}
-use Rattle.checker.specs.declared.Verdict.{Verdict}
-use Rattle.checker.specs.declared.Verdict.TheVariants.{Accepted}
+use Rattle.checker.specs.Grading.{Verdict, program_read, accepted_with, by_answer, by_reading, verdict_of, answer_of}
 use Rattle.frames.specs.Laws.Program.{method-is, methods-length}
-use Rattle.session.specs.Page.{put_at}
 use Rattle.session.specs.Writing.{line_of, high, low}
-use Rattle.session.specs.Session.{longest_session, answer_frame, grades_of, method_frame, method_lines, refusal_frame, session_by, session_of}
+use Rattle.session.proofs.Laws.Writing.{length-line}
+use Rattle.session.specs.Session.{longest_method, answer_frame, grades_of, method_frame, method_lines, session_by, session_of}
 
 pub method-at : (t : List ℕ) (m : ℕ) → m < length (program_of (cell t)).methods → method_of (cell t) m ≡ method_at (program_of (cell t)) m
 method-at t m l = sym (method-is (cell t) m (omega (arith, methods-length (cell t))))
@@ -53,69 +50,69 @@ module _ (t answer : List ℕ) (m : ℕ) (w : WellFormed (program_of (cell t))) 
       let own : k₁ ≡ (method_at (program_of (cell t)) m).k = omega (arith, (w.methods m l).names) in
       rw (count, number, own)
 
+pub lines-short : (t answer : List ℕ) → WellFormed (program_of (cell t)) → length answer ≡ answer_length → (n : ℕ) → n ≤ length (program_of (cell t)).methods
+    → length (method_lines (program_of (cell t)) answer n) ≤ longest_method * n
+unfolding method_lines
+lines-short t answer w long zero h = omega arith
+lines-short t answer w long (suc n) h =
+    let p = program_of (cell t) in
+    let frame = method_frame answer n (method_at p n).k in
+    omega (arith, lines-short t answer w long n (omega arith), length-append (method_lines p answer n) (line_of frame), length-line frame, frame-short t answer n w (omega arith) long)
+
 pub lines_more : (p : Program) (answer : List ℕ) (m : ℕ)
     → method_lines p answer (m + 1) ≡ method_lines p answer m ++ line_of (method_frame answer m (method_at p m).k)
 unfolding method_lines
 lines_more p answer m = rw (add-one m)
 
--- a refusal's frame from the bytes that the code puts together
-pub refusal-bytes : (n : Numbers) (h₁ l₁ l₂ l₃ h₂ l₄ l₅ : ℕ)
-    → h₁ ≡ high n.line → l₁ ≡ low n.line → l₂ ≡ low n.method → l₃ ≡ low n.kind → h₂ ≡ high n.node → l₄ ≡ low n.node → l₅ ≡ low n.set
-    → (0x1F ∷ n.number ∷ h₁ ∷ l₁ ∷ l₂ ∷ l₃ ∷ h₂ ∷ l₄ ∷ l₅ ∷ []) ≡ refusal_frame n
-unfolding refusal_frame
-refusal-bytes n h₁ l₁ l₂ l₃ h₂ l₄ l₅ e₁ e₂ e₃ e₄ e₅ e₆ e₇ = rw (e₁, e₂, e₃, e₄, e₅, e₆, e₇)
-
--- the answer's
+-- the answer's frame from the bytes that the code puts together
 pub answer-bytes : (methods rounds m₁ h₁ l₁ : ℕ) → methods < 256 → m₁ ≡ low methods → h₁ ≡ high rounds → l₁ ≡ low rounds
     → (0x10 ∷ m₁ ∷ h₁ ∷ l₁ ∷ []) ≡ answer_frame methods rounds
 unfolding answer_frame
 answer-bytes methods rounds m₁ h₁ l₁ small e₁ e₂ e₃ = let e : m₁ ≡ methods = omega arith in rw (e, e₂, e₃)
 
--- a frame of n bytes that was put at the front, under another name
-pub renamed : (d frame frame' after : List ℕ) (end : ℕ) → frame ≡ frame' → end ≡ length (line_of frame) → after ≡ put_at d 0 (line_of frame)
-    → (end ≡ length (line_of frame')) × (after ≡ put_at d 0 (line_of frame'))
-renamed d frame frame' after end e e₁ e₂ = (e₁ ∙ ap (λ (l : List ℕ). length (line_of l)) e, e₂ ∙ ap (λ (l : List ℕ). put_at d 0 (line_of l)) e)
+pub answer-length : (methods rounds : ℕ) → length (line_of (answer_frame methods rounds)) ≡ 9
+unfolding answer_frame
+answer-length methods rounds = length-line (answer_frame methods rounds)
 
 -- ---- a text that is accepted
 
-accepted-methods : (a : Answer) (n m rounds : ℕ) → by_answer a n ≡ Accepted m rounds → m ≡ n
-accepted-methods (accepted r tables) n m rounds e = cc
+methods_in : Verdict → ℕ
+methods_in (Ok a) = a.methods
+methods_in (Err refusal) = 0
+
+accepted-methods : (a : Answer) (n m rounds : ℕ) → by_answer a n ≡ accepted_with m rounds → m ≡ n
+unfolding methods_in
+accepted-methods (accepted r tables) n m rounds e = ap methods_in (sym e)
 accepted-methods (refused method kind node set) n m rounds e = let z : ◌≡◌ {A = ℕ} 0 1 = cc in absurd (let f : ⊥ = omega arith in f)
 
-accepted-reads : (o : Outcome) (p : Program) (m rounds : ℕ) → by_reading o p ≡ Accepted m rounds → (o ≡ Outcome.Whole) × (m ≡ method_count p)
-accepted-reads Outcome.Whole p m rounds e = (refl, accepted-methods (answer p) (method_count p) m rounds e)
-accepted-reads Outcome.Overlong p m rounds e = absurd (let z : ◌≡◌ {A = ℕ} 0 1 = cc in omega arith)
-accepted-reads (Outcome.Malformed line) p m rounds e = absurd (let z : ◌≡◌ {A = ℕ} 0 1 = cc in omega arith)
-accepted-reads (Outcome.Misplaced line) p m rounds e = absurd (let z : ◌≡◌ {A = ℕ} 0 1 = cc in omega arith)
-accepted-reads (Outcome.OutOfRange line) p m rounds e = absurd (let z : ◌≡◌ {A = ℕ} 0 1 = cc in omega arith)
-accepted-reads (Outcome.Unlinked line) p m rounds e = absurd (let z : ◌≡◌ {A = ℕ} 0 1 = cc in omega arith)
+accepted-reads : (o : Result Tables TextRefusal) (p : Program) (m rounds : ℕ) → by_reading o p ≡ accepted_with m rounds → ((T : Tables) × (o ≡ Ok T)) × (m ≡ method_count p)
+accepted-reads (Ok T) p m rounds e = ((T, refl), accepted-methods (answer p) (method_count p) m rounds e)
+accepted-reads (Err refusal) p m rounds e = absurd (let z : ◌≡◌ {A = ℕ} 0 1 = cc in omega arith)
 
-pub accepted-whole : (text : List ℕ) (m rounds : ℕ) → verdict_of text answer_length ≡ Accepted m rounds
-    → ((read_text text).outcome ≡ Outcome.Whole) × (m ≡ method_count (program_read text))
+pub accepted-whole : (text : List ℕ) (m rounds : ℕ) → verdict_of text answer_length ≡ accepted_with m rounds
+    → ((T : Tables) × (read_text text ≡ Ok T)) × (m ≡ method_count (program_read text))
 unfolding verdict_of
-accepted-whole text m rounds e = accepted-reads (read_text text).outcome (program_read text) m rounds e
+accepted-whole text m rounds e = accepted-reads (read_text text) (program_read text) m rounds e
 
 -- the tables of such a text stand for its program, which is well formed
-pub record Stands (text : List ℕ) (m : ℕ) (r : Checked) : Type 0 where
-  pub formed : WellFormed (program_of (cell r.tables.bytes))
-  pub count : m ≡ length (program_of (cell r.tables.bytes)).methods
-  pub same : program_of (cell r.tables.bytes) ≡ program_read text
+pub record Stands (text : List ℕ) (m : ℕ) (T : Tables) : Type 0 where
+  pub formed : WellFormed (program_of (cell T.bytes))
+  pub count : m ≡ length (program_of (cell T.bytes)).methods
+  pub same : program_of (cell T.bytes) ≡ program_read text
 
-pub stands : (text : List ℕ) (m rounds : ℕ) (r : Checked) → r ≡ read_text text → verdict_of text answer_length ≡ Accepted m rounds → Stands text m r
+pub stands : (text : List ℕ) (m rounds : ℕ) (T : Tables) → read_text text ≡ Ok T → verdict_of text answer_length ≡ accepted_with m rounds → Stands text m T
 unfolding method_count
-stands text m rounds r e v =
+stands text m rounds T e v =
     let w = accepted-whole text m rounds v in
-    let same : program_of (cell (read_text text).tables.bytes) ≡ program_read text = ap program_of (tables-stand text w.0) in
-    subst⁻¹ (λ (c : Checked). Stands text m c) e
-    (record { formed = read-well-formed text w.0; count = w.1 ∙ ap (λ (p : Program). length p.methods) (sym same); same = same })
+    let same : program_of (cell T.bytes) ≡ program_read text = ap program_of (tables-stand text T e) in
+    record { formed = read-well-formed text T e; count = w.1 ∙ ap (λ (p : Program). length p.methods) (sym same); same = same }
 
 -- by the verdict that was found
-pub by-verdict : (text page answer : List ℕ) (verdict v : Verdict) (r : ℕ) (after : List ℕ)
+pub by-verdict : (text answer page : List ℕ) (verdict v : Verdict)
     → verdict ≡ verdict_of text answer_length → verdict ≡ v → answer ≡ answer_of text (replicate answer_length 0)
-    → (((r ≡ length (session_by v (program_read text) answer)) × (r ≤ longest_session)) × (after ≡ put_at page 0 (session_by v (program_read text) answer)))
-    → ((r ≡ length (session_of text)) × (r ≤ longest_session)) × (after ≡ put_at page 0 (session_of text))
+    → page ≡ session_by v (program_read text) answer → page ≡ session_of text
 unfolding session_of
-by-verdict text page answer verdict v r after found is same given =
-    let e : session_by v (program_read text) answer ≡ session_of text =
-    ap (λ (x : Verdict). session_by x (program_read text) answer) (sym is ∙ found) ∙ ap (session_by (verdict_of text answer_length) (program_read text)) same in
-    ((given.0.0 ∙ ap length e, given.0.1), given.1 ∙ ap (put_at page 0) e)
+by-verdict text answer page verdict v found is same given =
+    given
+    ∙ (ap (λ (x : Verdict). session_by x (program_read text) answer) (sym is ∙ found)
+    ∙ ap (session_by (verdict_of text answer_length) (program_read text)) same)

@@ -20,7 +20,7 @@ abbrev pub last_frame : List ℕ → ℕ
 last_frame t = first_frame (cell t) (methods_in (cell t))
 
 -- every synchronised node's lock has a bit in a mask
-unfoldable pub LocksFit : List ℕ → Type 0
+abbrev pub LocksFit : List ℕ → Type 0
 LocksFit t = (j : ℕ) → first_node_frame t ≤ j → j < last_frame t → (node_in t j).op ≡ 6 → first_name (node_in t j).names < mask_names
 
 -- a callee's table at the sets whose names below j are those in a set, by what the sets have from name j on

@@ -1,8 +1,9 @@
 -- A node put together by the engine has the grade that `meaning` gives it.
 -- Assumes nothing.
-use Rattle.std.specs.Prelude.{ℕ, zero, suc, ◌≤◌, ◌<◌, Bool, true, false, not, cond, List, [], ◌∷◌, ◌++◌, map, ◌≡◌, ltb, eqb, get_or}
+use Rattle.std.specs.Prelude.{ℕ, zero, suc, ◌≤◌, ◌<◌, Bool, true, false, not, cond, List, [], ◌∷◌, ◌++◌, map, ◌≡◌, ltb, eqb, get_or, Option, slice_get, unwrap_or}
 use Rattle.std.proofs.Math.Path.{refl, sym, ap}
-use Rattle.std.proofs.Common.{ap₂, ◌∙◌, subst, arith, lt-ltb, eq-eqb, ne_eqb}
+use Rattle.std.proofs.lemmas.Option.{unwrap_or-slice_get}
+use Rattle.std.proofs.Common.{None, Some, ap₂, ◌∙◌, subst, arith, lt-ltb, eq-eqb, ne_eqb}
 use Rattle.std.proofs.Math.Decide.{ℕ_discrete}
 use Rattle.std.proofs.Math.Dec.{leb-suc-zero}
 use Rattle.std.proofs.Math.ListN.{get_or-eq_default}
@@ -11,9 +12,12 @@ use Rattle.grades.proofs.Laws.Grades.{cap-grade, compose-error, compose-const}
 use Rattle.grades.specs.HeldSets.{mask_names, held, add, add_within}
 use Rattle.frames.specs.Program.{Node, Program}
 use Rattle.frames.specs.Ranges.{children_listed}
+use Rattle.frames.specs.Laws.Ranges.{children-past}
+use Rattle.frames.specs.Ops.{op_named, number_of}
+use Rattle.frames.specs.Laws.Ops.{ops_past, named_number}
 use Rattle.meaning.specs.Meaning.{Assignment, Op, plain_value, read, write, sequence, choice, loop, synchronised, assertion, call, fork, no_op, op_of, listed, children, child_set, own_part, parts, part_grade, child, whole, first_name, node_grade, below, meaning}
 use Rattle.meaning.proofs.Laws.Meaning.{below-error, below_none}
-use Rattle.solver.specs.Nodes.{no_child, child_at, own_grade, combined, mask_set}
+use Rattle.solver.specs.Nodes.{meant, no_child, child_at, listed_child, own_grade, combined, mask_set}
 
 -- ---- absent parts
 
@@ -131,44 +135,82 @@ combined-plain newly x y z own op =
 pub combined-past : (newly : Bool) (x y z own op : ℕ) → 10 ≤ op → combined (op_of op) newly x y z own ≡ error
 combined-past newly x y z own op g = at-no_op (λ (o : Op). combined o newly x y z own ≡ error) refl op g
 
+-- an op by its name is the op by its number
+pub meant_named : (op : ℕ) → meant (op_named op) ≡ op_of op
+unfolding op_named op_of
+meant_named =
+    op-cases (λ n. meant (op_named n) ≡ op_of n) refl refl refl refl refl refl refl refl refl refl
+    (λ n g. ap meant (ops_past n g) ∙ sym (op-past n g))
+
+-- only op 6 is synchronised
+pub six_named : (op : ℕ) → eqb (number_of (op_named op)) 6 ≡ eqb op 6
+six_named op = ap (λ (n : ℕ). eqb n 6) (named_number op)
+
+pub mask_named : (op name H : ℕ) → mask_set (number_of (op_named op)) name H ≡ mask_set op name H
+mask_named op name H = ap (λ (n : ℕ). mask_set n name H) (named_number op)
+
 -- the children that an op lists, by number
 pub children_listed-past : (op : ℕ) → 10 ≤ op → children_listed op ≡ 0
-unfolding children_listed
-children_listed-past op h = get_or-eq_default (0 ∷ 1 ∷ 2 ∷ 2 ∷ 3 ∷ 2 ∷ 1 ∷ 1 ∷ 1 ∷ 1 ∷ []) 0 h
+children_listed-past = children-past
 
 -- child i, of three, if the op lists so many
 abbrev pub ListsAt : (X Y Z i op : ℕ) → Type 0
 ListsAt X Y Z i op =
-    get_or (listed (op_of op) X Y Z) i no_child ≡ cond (ltb i (children_listed op)) (get_or (X ∷ Y ∷ Z ∷ []) i no_child) no_child
+    slice_get (listed (op_of op) X Y Z) i ≡ cond (ltb i (children_listed op)) (slice_get (X ∷ Y ∷ Z ∷ []) i) None
 
 lists-past : (X Y Z i op : ℕ) → 10 ≤ op → ListsAt X Y Z i op
 lists-past X Y Z i op h =
+    ap (λ (o : Op). slice_get (listed o X Y Z) i) (op-past op h)
+    ∙ ap (λ (b : Bool). cond b (slice_get (X ∷ Y ∷ Z ∷ []) i) None) (sym (ap (ltb i) (children_listed-past op h) ∙ leb-suc-zero i))
+
+pub child-first : (node : Node) → listed_child node 0 ≡ cond (ltb 0 (children_listed node.op)) (Some node.X) None
+unfolding listed_child children op_of children_listed
+child-first node =
+    op-cases (ListsAt node.X node.Y node.Z 0) refl refl refl refl refl refl refl refl refl refl (lists-past node.X node.Y node.Z 0) node.op
+
+pub child-second : (node : Node) → listed_child node 1 ≡ cond (ltb 1 (children_listed node.op)) (Some node.Y) None
+unfolding listed_child children op_of children_listed
+child-second node =
+    op-cases (ListsAt node.X node.Y node.Z 1) refl refl refl refl refl refl refl refl refl refl (lists-past node.X node.Y node.Z 1) node.op
+
+pub child-third : (node : Node) → listed_child node 2 ≡ cond (ltb 2 (children_listed node.op)) (Some node.Z) None
+unfolding listed_child children op_of children_listed
+child-third node =
+    op-cases (ListsAt node.X node.Y node.Z 2) refl refl refl refl refl refl refl refl refl refl (lists-past node.X node.Y node.Z 2) node.op
+
+-- the same by the number that stands for a child: `no_child` where the op lists fewer
+abbrev pub ListsNumberAt : (X Y Z i op : ℕ) → Type 0
+ListsNumberAt X Y Z i op =
+    get_or (listed (op_of op) X Y Z) i no_child ≡ cond (ltb i (children_listed op)) (get_or (X ∷ Y ∷ Z ∷ []) i no_child) no_child
+
+lists_number-past : (X Y Z i op : ℕ) → 10 ≤ op → ListsNumberAt X Y Z i op
+lists_number-past X Y Z i op h =
     ap (λ (o : Op). get_or (listed o X Y Z) i no_child) (op-past op h)
     ∙ ap (λ (b : Bool). cond b (get_or (X ∷ Y ∷ Z ∷ []) i no_child) no_child) (sym (ap (ltb i) (children_listed-past op h) ∙ leb-suc-zero i))
 
-pub lists-first : (X Y Z op : ℕ) → ListsAt X Y Z 0 op
+pub lists-first : (X Y Z op : ℕ) → ListsNumberAt X Y Z 0 op
 unfolding op_of children_listed
-lists-first X Y Z = op-cases (ListsAt X Y Z 0) refl refl refl refl refl refl refl refl refl refl (lists-past X Y Z 0)
+lists-first X Y Z = op-cases (ListsNumberAt X Y Z 0) refl refl refl refl refl refl refl refl refl refl (lists_number-past X Y Z 0)
 
-pub lists-second : (X Y Z op : ℕ) → ListsAt X Y Z 1 op
+pub lists-second : (X Y Z op : ℕ) → ListsNumberAt X Y Z 1 op
 unfolding op_of children_listed
-lists-second X Y Z = op-cases (ListsAt X Y Z 1) refl refl refl refl refl refl refl refl refl refl (lists-past X Y Z 1)
+lists-second X Y Z = op-cases (ListsNumberAt X Y Z 1) refl refl refl refl refl refl refl refl refl refl (lists_number-past X Y Z 1)
 
-pub lists-third : (X Y Z op : ℕ) → ListsAt X Y Z 2 op
+pub lists-third : (X Y Z op : ℕ) → ListsNumberAt X Y Z 2 op
 unfolding op_of children_listed
-lists-third X Y Z = op-cases (ListsAt X Y Z 2) refl refl refl refl refl refl refl refl refl refl (lists-past X Y Z 2)
+lists-third X Y Z = op-cases (ListsNumberAt X Y Z 2) refl refl refl refl refl refl refl refl refl refl (lists_number-past X Y Z 2)
 
-pub child-first : (node : Node) → child_at node 0 ≡ cond (ltb 0 (children_listed node.op)) node.X no_child
+pub child_number-first : (node : Node) → child_at node 0 ≡ cond (ltb 0 (children_listed node.op)) node.X no_child
 unfolding child_at children
-child-first node = lists-first node.X node.Y node.Z node.op
+child_number-first node = lists-first node.X node.Y node.Z node.op
 
-pub child-second : (node : Node) → child_at node 1 ≡ cond (ltb 1 (children_listed node.op)) node.Y no_child
+pub child_number-second : (node : Node) → child_at node 1 ≡ cond (ltb 1 (children_listed node.op)) node.Y no_child
 unfolding child_at children
-child-second node = lists-second node.X node.Y node.Z node.op
+child_number-second node = lists-second node.X node.Y node.Z node.op
 
-pub child-third : (node : Node) → child_at node 2 ≡ cond (ltb 2 (children_listed node.op)) node.Z no_child
+pub child_number-third : (node : Node) → child_at node 2 ≡ cond (ltb 2 (children_listed node.op)) node.Z no_child
 unfolding child_at children
-child-third node = lists-third node.X node.Y node.Z node.op
+child_number-third node = lists-third node.X node.Y node.Z node.op
 
 -- a child that is listed, and one that is not
 pub cond_yes : (b : Bool) (x y : ℕ) → b ≡ true → cond b x y ≡ x
@@ -177,23 +219,27 @@ cond_yes b x y e = ap (λ (c : Bool). cond c x y) e
 pub cond_no : (b : Bool) (x y : ℕ) → b ≡ false → cond b x y ≡ y
 cond_no b x y e = ap (λ (c : Bool). cond c x y) e
 
+-- the number that stands for a child, listed or not
+pub child-or : (node : Node) (i : ℕ) → unwrap_or (listed_child node i) no_child ≡ child_at node i
+unfolding listed_child child_at
+child-or node i = unwrap_or-slice_get (children node) i no_child
+
 -- a node's meaning, from its parts one by one
-pub assembled : (p : Program) (a : Assignment) (nodes : ℕ → Node) (n H op under x y z own va vb vc r : ℕ) (newly : Bool) → n ≤ no_child
-    → op ≡ (nodes n).op → newly ≡ not (held H (first_name (nodes n).names)) → under ≡ child_set (op_of (nodes n).op) (nodes n).names H
-    → x ≡ child_at (nodes n) 0 → y ≡ child_at (nodes n) 1 → z ≡ child_at (nodes n) 2 → own ≡ own_grade p a (op_of (nodes n).op) (nodes n) H
-    → va ≡ below p a nodes n x under → vb ≡ below p a nodes n y under → vc ≡ below p a nodes n z under
-    → r ≡ combined (op_of op) newly va vb vc own → r ≡ meaning p a nodes n H
-assembled p a nodes n H op under x y z own va vb vc r newly few eop enewly eunder ex ey ez eown ea eb ec er =
-    let X : va ≡ below p a nodes n (child_at (nodes n) 0) under = ea ∙ ap (λ (i : ℕ). below p a nodes n i under) ex in
-    let Y : vb ≡ below p a nodes n (child_at (nodes n) 1) under = eb ∙ ap (λ (i : ℕ). below p a nodes n i under) ey in
-    let Z : vc ≡ below p a nodes n (child_at (nodes n) 2) under = ec ∙ ap (λ (i : ℕ). below p a nodes n i under) ez in
+pub assembled : (p : Program) (a : Assignment) (nodes : ℕ → Node) (n H under own va vb vc r : ℕ) (x y z : Option ℕ) (o : Op) (newly : Bool) → n ≤ no_child
+    → o ≡ op_of (nodes n).op → newly ≡ not (held H (first_name (nodes n).names)) → under ≡ child_set (op_of (nodes n).op) (nodes n).names H
+    → x ≡ listed_child (nodes n) 0 → y ≡ listed_child (nodes n) 1 → z ≡ listed_child (nodes n) 2 → own ≡ own_grade p a (op_of (nodes n).op) (nodes n) H
+    → va ≡ below p a nodes n (unwrap_or x no_child) under → vb ≡ below p a nodes n (unwrap_or y no_child) under → vc ≡ below p a nodes n (unwrap_or z no_child) under
+    → r ≡ combined o newly va vb vc own → r ≡ meaning p a nodes n H
+assembled p a nodes n H under own va vb vc r x y z o newly few eo enewly eunder ex ey ez eown ea eb ec er =
+    let child : (i : ℕ) (c : Option ℕ) → c ≡ listed_child (nodes n) i → below p a nodes n (unwrap_or c no_child) under ≡ below p a nodes n (child_at (nodes n) i) under
+    = λ i c e. ap (λ (k : ℕ). below p a nodes n k under) (ap (λ (d : Option ℕ). unwrap_or d no_child) e ∙ child-or (nodes n) i) in
     er
-    ∙ ap₂ (λ (o : Op) (b : Bool). combined o b va vb vc own) (ap op_of eop) enewly
-    ∙ ap₂ (λ (i j : ℕ). combined (op_of (nodes n).op) (not (held H (first_name (nodes n).names))) i j vc own) X Y
+    ∙ ap₂ (λ (q : Op) (b : Bool). combined q b va vb vc own) eo enewly
+    ∙ ap₂ (λ (i j : ℕ). combined (op_of (nodes n).op) (not (held H (first_name (nodes n).names))) i j vc own) (ea ∙ child 0 x ex) (eb ∙ child 1 y ey)
     ∙ ap₂
     (λ (i j : ℕ). combined (op_of (nodes n).op) (not (held H (first_name (nodes n).names))) (below p a nodes n (child_at (nodes n) 0) under)
     (below p a nodes n (child_at (nodes n) 1) under) i j)
-    Z eown
+    (ec ∙ child 2 z ez) eown
     ∙ sym (meaning-combined p a nodes n H under few (sym eunder))
 
 -- a mask has a bit for every lock that is taken, so what stands in it is the set that `meaning` has

@@ -1,6 +1,6 @@
 -- The closed constraints in order, as the code goes through them.
 -- Assumes nothing.
-use Rattle.std.specs.Prelude.{ℕ, suc, ◌+◌, ◌-◌, ◌^◌, ◌≤◌, ◌<◌, min, Bool, not, ◌||◌, ◌≡◌, T, leb, length, get_or}
+use Rattle.std.specs.Prelude.{ℕ, suc, ◌+◌, ◌-◌, ◌^◌, ◌≤◌, ◌<◌, min, Bool, not, ◌||◌, ◌≡◌, T, leb, ltb, length, get_or, Option, Some, None}
 use Rattle.std.proofs.Math.Bool.{true, false, cond}
 use mathlib.Core.List.{List, [], ◌∷◌, ◌++◌}
 use Rattle.std.proofs.Math.Path.{refl, ap}
@@ -28,11 +28,10 @@ use Rattle.solver.specs.Laws.Engine.{op-cases, op-past}
 use Rattle.solver.specs.Laws.Views.{method-in, method-past}
 use Rattle.solver.specs.Flat.{program_in}
 use Rattle.solver.specs.Laws.Flat.{few-entries, body-node}
-use Rattle.solver.specs.declared.constraints.Finding.{Finding}
-use Rattle.solver.specs.declared.constraints.Finding.TheVariants.{Met}
+use Rattle.solver.specs.declared.constraints.Broken.{Broken}
 use Rattle.solver.specs.Code.Rounds.{Fits, At}
 use Rattle.solver.specs.Findings.{found}
-use Rattle.solver.specs.Code.Forks.{fork_set}
+use Rattle.solver.specs.Code.Forks.{fork_set, IsLowestSet}
 
 -- ---- the lowest set
 
@@ -72,6 +71,36 @@ unfolding broken_set
 main-met p a h =
     first-is 1 (λ H. not (leb (a 0 H) cmpd)) 1 (omega arith)
     (λ j k. let none : 0 ≡ j = omega arith in subst (λ (i : ℕ). T (not (not (leb (a 0 i) cmpd)))) none (not-not-leb (a 0 0) cmpd h)) (λ k. absurd (omega arith))
+
+pub main-is : (p : Program) (a : Assignment) → ltb cmpd (a 0 0) ≡ is_broken p a main_table
+unfolding is_broken
+main-is p a = go (dec_lt 3 (a 0 0))
+  where
+    go : Dec (3 < a 0 0) → ltb cmpd (a 0 0) ≡ ltb (broken_set p a main_table) 1
+    go (yes l) = lt-ltb 3 (a 0 0) l ∙ ap (λ (h : ℕ). ltb h 1) (main-broken p a l)
+    go (no l) = le-ltb 3 (a 0 0) (omega arith) ∙ ap (λ (h : ℕ). ltb h 1) (main-met p a (omega arith))
+
+-- the main's constraint is broken at its one set, or met there
+pub main-at : (p : Program) (a : Assignment) → is_broken p a main_table ≡ true → 0 ≡ broken_set p a main_table
+unfolding is_broken
+main-at p a e = go (dec_lt (broken_set p a main_table) 1)
+  where
+    go : Dec (broken_set p a main_table < 1) → 0 ≡ broken_set p a main_table
+    go (yes l) = omega arith
+    go (no l) = let none = le-ltb (broken_set p a main_table) 1 (omega arith) in cc
+
+pub main-past : (p : Program) (a : Assignment) → is_broken p a main_table ≡ false → 1 ≤ broken_set p a main_table
+unfolding is_broken
+main-past p a e = go (dec_lt (broken_set p a main_table) 1)
+  where
+    go : Dec (broken_set p a main_table < 1) → 1 ≤ broken_set p a main_table
+    go (yes l) = let some = lt-ltb (broken_set p a main_table) 1 l in absurd cc
+    go (no l) = omega arith
+
+-- where no set is found, the constraint is met at all of them
+pub no-set : (count H : ℕ) (r : Option ℕ) → IsLowestSet count H r → ((set : ℕ) → r ≡ Some set → ⊥) → count ≤ H
+no-set count H None h none = h
+no-set count H (Some set) h none = absurd (none set refl)
 
 -- a set at which a forked method's table is not over 3, or lock 0 is not held
 pub record Quiet (a : Assignment) (u j : ℕ) : Type 0 where
@@ -175,18 +204,18 @@ module _ (p : Program) (a : Assignment) where
       go true ih = refl
       go false ih = ih
 
-  pub second-broken : (xs ys : List Closed) → found (first_broken p a xs) ≡ Met → first_broken p a (xs ++ ys) ≡ first_broken p a ys
-  second-broken xs ys e = in_two xs ys ∙ go (first_broken p a xs) e
+  pub second-broken : (xs ys : List Closed) → ((b : Broken) → found (first_broken p a xs) ≡ Some b → ⊥) → first_broken p a (xs ++ ys) ≡ first_broken p a ys
+  second-broken xs ys none = in_two xs ys ∙ go (first_broken p a xs) none
     where
-      go : (v : constraints.Finding) → found v ≡ Met → or_else v (first_broken p a ys) ≡ first_broken p a ys
-      go none_broken f = refl
-      go (broken c H) f = let z : ◌≡◌ {A = ℕ} 0 1 = cc in absurd (omega arith)
+      go : (v : constraints.Finding) → ((b : Broken) → found v ≡ Some b → ⊥) → or_else v (first_broken p a ys) ≡ first_broken p a ys
+      go none_broken n = refl
+      go (broken c H) n = absurd (n _ refl)
 
-  pub first-kept : (xs ys : List Closed) (v : Finding) → v ≡ found (first_broken p a xs) → (v ≡ Met → ⊥) → v ≡ found (first_broken p a (xs ++ ys))
-  first-kept xs ys v e h = go (first_broken p a xs) e ∙ ap found (sym (in_two xs ys))
+  pub first-kept : (xs ys : List Closed) (b : Broken) → Some b ≡ found (first_broken p a xs) → Some b ≡ found (first_broken p a (xs ++ ys))
+  first-kept xs ys b e = go (first_broken p a xs) e ∙ ap found (sym (in_two xs ys))
     where
-      go : (w : constraints.Finding) → v ≡ found w → v ≡ found (or_else w (first_broken p a ys))
-      go none_broken f = absurd (h f)
+      go : (w : constraints.Finding) → Some b ≡ found w → Some b ≡ found (or_else w (first_broken p a ys))
+      go none_broken f = cc
       go (broken c H) f = f
 
 -- ---- lists of constraints in a row, from number n on

@@ -5,7 +5,7 @@ use Rattle.std.proofs.Math.Bool.{true, false, cond}
 use Rattle.std.proofs.Math.Path.{refl}
 use Rattle.std.proofs.Common.{sym, ap, ap₂, ◌∙◌, subst, le_trans, arith, ext_get_or}
 use Rattle.std.proofs.Math.Decide.{dec_lt}
-use borrow.Author.Tests.{le-ltb, le-leb, lt-leb}
+use borrow.Author.Tests.{lt-ltb, le-ltb, le-leb, lt-leb}
 use Rattle.std.proofs.Math.Dec.{T, leb, ltb}
 use Rattle.std.proofs.Math.ListN.{get_or-eq_default}
 use Rattle.std.proofs.lemmas.List.{length-replicate, get_or-replicate}
@@ -67,14 +67,22 @@ rise-start f g = go (dec_lt g (f 0))
     go (yes a) = rw (le-leb (suc g) (f 0) (omega arith)) (rw (le-leb 0 g (omega arith)) (unfold first in refl))
     go (no a) = rw (lt-leb (suc g) (f 0) (omega arith)) (rw (le-leb 0 g (omega arith)) refl)
 
+-- an entry has risen past the grades from its old one up to its new one, and past no other
+pub risen-past : (before old new g n : ℕ) → old ≤ g → g < new → n ≡ noted before old new g n
+unfolding noted
+risen-past before old new g n h l = rw (le-leb old g h) (rw (lt-ltb g new l) refl)
+
+pub not-risen : (before old new g n : ℕ) → (old ≤ g → new ≤ g) → before ≡ noted before old new g n
+unfolding noted
+not-risen before old new g n h = go (dec_lt g old)
+  where
+    go : Dec (g < old) → before ≡ cond (leb old g && ltb g new) n before
+    go (yes l) = rw (lt-leb old g l) refl
+    go (no l) = rw (le-leb old g (omega arith)) (rw (le-ltb g new (h (omega arith))) refl)
+
 -- an entry that stays as it was has not risen
 pub same_noted : (before old new g n : ℕ) → old ≡ new → before ≡ noted before old new g n
-unfolding noted
-same_noted before old new g n e = rw (sym e) (go (dec_lt g old))
-  where
-    go : Dec (g < old) → before ≡ cond (leb old g && ltb g old) n before
-    go (yes l) = rw (lt-leb old g l) refl
-    go (no l) = rw (le-leb old g (omega arith)) (rw (le-ltb g old (omega arith)) refl)
+same_noted before old new g n e = not-risen before old new g n (λ h. omega arith)
 
 -- ---- all entries
 

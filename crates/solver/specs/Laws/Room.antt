@@ -1,6 +1,9 @@
 -- The test for room, as the code goes through it; tables that pass it fit.
 -- Assumes nothing.
-use Rattle.std.specs.Prelude.{ℕ, ◌+◌, ◌-◌, ◌≤◌, ◌<◌, Bool, true, false, not, ◌&&◌, ◌||◌, List, ◌≡◌, eqb, get_or}
+use Rattle.std.specs.Prelude.{ℕ, zero, suc, ◌+◌, ◌-◌, ◌≤◌, ◌<◌, Bool, true, false, not, ◌&&◌, ◌||◌, List, ◌≡◌, eqb, get_or, length}
+use Rattle.std.specs.Bool.{MatchBool}
+use Rattle.std.specs.List.{AllWithin, HoldsAt, range_with_len}
+use Rattle.std.proofs.lemmas.List.FromFn.{get_or-range_with_len, length-range_with_len}
 use Rattle.std.proofs.Math.Path.{refl, ap, ap₂, subst}
 use Rattle.std.proofs.Common.{sym, ◌∙◌, ltb→lt}
 use native.Mathlib.Omega.{arith}
@@ -15,10 +18,26 @@ use Rattle.counting.specs.Laws.Tests.{both_left, both_right}
 use Rattle.frames.specs.Layout.{layout}
 use Rattle.frames.specs.Frames.{methods_in}
 use Rattle.frames.specs.Tables.{cell, method_of}
-use Rattle.solver.specs.Code.Engine.{first_node_frame, last_frame, LocksFit}
+use Rattle.solver.specs.Code.Engine.{first_node_frame, last_frame}
 use Rattle.solver.specs.Room.{names_fit, lock_fits, locks_fit, has_room}
 use Rattle.solver.specs.Laws.Views.{first-name}
 use Rattle.solver.specs.Code.Rounds.{Fits}
+
+every-true : (n : ℕ) (f : ℕ → Bool) → ((i : ℕ) → i < n → f i ≡ true) → every n f ≡ true
+unfolding every
+every-true zero f h = refl
+every-true (suc n) f h = simp (every-true n f (λ i l. h i (omega arith)), h n (omega arith))
+
+-- a test that `all` asks of the n numbers from a on
+pub every_asked : (a n : ℕ) (f g : ℕ → Bool) (r : Bool) → ((i : ℕ) → f (a + i) ≡ g i)
+    → MatchBool r (AllWithin (λ i. f i ≡ true) (range_with_len a n) 0 (length (range_with_len a n)))
+    ((k : ℕ) × (k < length (range_with_len a n)) × HoldsAt (λ i. f i ≡ false) (range_with_len a n) k)
+    → r ≡ every n g
+every_asked a n f g true same h =
+    sym (every-true n g (λ i l. sym (same i) ∙ ap f (sym (get_or-range_with_len a n i 0 l)) ∙ h i 0 (omega arith) (omega (arith, length-range_with_len a n))))
+every_asked a n f g false same h =
+    let few : h.0 < n = omega (arith, h.1, length-range_with_len a n) in
+    sym (every-fails n g h.0 few (sym (same h.0) ∙ ap f (sym (get_or-range_with_len a n h.0 0 few)) ∙ h.2 0))
 
 module _ (t : List ℕ) where
   pub names-none : names_fit t 0 ≡ true
@@ -61,7 +80,7 @@ module _ (t : List ℕ) where
 
   -- tables that pass the tests fit
   pub room_fits : has_room t ≡ true → Fits t
-  unfolding has_room names_fit locks_fit lock_fits LocksFit
+  unfolding has_room names_fit locks_fit lock_fits
   room_fits e =
       let all = subst T (sym e) tt in
       let r1 = both_right (leb (methods_in (cell t)) layout.most_methods) _ all in

@@ -1,9 +1,9 @@
 -- The program that checked tables stand for, seen at one field, method, node or name: what `frames` reads off the tables is what
 -- `meaning` asks of the program.
 -- Assumes nothing.
-use Rattle.std.specs.Prelude.{ℕ, zero, suc, ◌+◌, ◌*◌, ◌≤◌, ◌<◌, ◌^◌, min, max, Bool, true, false, cond, List, [], ◌∷◌, ◌≡◌, eqb, length, get_or, take, drop}
+use Rattle.std.specs.Prelude.{ℕ, zero, suc, ◌+◌, ◌*◌, ◌≤◌, ◌<◌, ◌^◌, min, max, Bool, true, false, cond, List, [], ◌∷◌, ◌≡◌, eqb, get_or, take, drop}
 use Rattle.std.proofs.Math.Path.{refl, fun_ext}
-use Rattle.std.proofs.Common.{sym, ap, ap₂, ◌∙◌, arith, pow-suc, add-mul, mul_assoc, mul_comm, add-one, ne_eqb, drop_of_length-le, take_all, drop-cons}
+use Rattle.std.proofs.Common.{sym, ap, ap₂, ◌∙◌, arith, pow-suc, add-mul, mul_assoc, mul_comm, add-one, ne_eqb, take_all}
 use Rattle.solver.specs.Nodes.{node_in}
 use Rattle.frames.specs.Layout.{layout}
 use Rattle.grades.specs.Grades.{error}
@@ -91,10 +91,10 @@ answered-below j inside r b h e = go b e (ap (λ (n : ℕ). 2 ^ n) (add-one j) �
     go true e d = omega arith
     go false e d = omega arith
 
-module _ (table : ℕ → ℕ) (names : List ℕ) (H j inside : ℕ) where
+module _ (table : ℕ → ℕ) (rest : List ℕ) (H j inside : ℕ) where
   -- the entries where the name j has an answer
   abbrev pub entries_after : Bool → ℕ
-  entries_after b = largest (entries_from table (j + 1) (inside + cond b 1 0 * 2 ^ j)) (matching (drop (j + 1) names) H)
+  entries_after b = largest (entries_from table (j + 1) (inside + cond b 1 0 * 2 ^ j)) (matching rest H)
 
   answer-put : (b : Bool) → entries_from table (j + 1) (inside + cond b 1 0 * 2 ^ j) ≡ (λ (S : ℕ). entries_from table j inside (cond b 1 0 + S * 2))
   answer-put b = fun_ext (λ S. ap table (ap (λ (n : ℕ). inside + cond b 1 0 * 2 ^ j + S * n) (ap (λ (n : ℕ). 2 ^ n) (add-one j) ∙ pow-suc 2 j) ∙ together S (cond b 1 0) (2 ^ j)))
@@ -103,27 +103,19 @@ module _ (table : ℕ → ℕ) (names : List ℕ) (H j inside : ℕ) where
       together S c n =
           omega (arith, add-mul c (S * 2) n, mul_assoc S n 2, mul_assoc S 2 n, ap (λ (m : ℕ). S * m) (mul_comm n 2))
 
-  pub entries-end : length names ≤ j → largest (entries_from table j inside) (matching (drop j names) H) ≡ table inside
-  entries-end h =
-      ap (λ (l : List ℕ). largest (entries_from table j inside) (matching l H)) (drop_of_length-le names h)
-      ∙ over_none (entries_from table j inside) H ∙ ap table (omega arith)
+  pub entries-unnamed : (name : ℕ) → name ≡ no_name
+      → largest (entries_from table j inside) (matching (name ∷ rest) H) ≡ max (entries_after false) (entries_after true)
+  entries-unnamed name e =
+      over-unnamed (entries_from table j inside) name rest H (ap (λ (t : ℕ). eqb t no_name) e)
+      ∙ ap₂ (λ (f g : ℕ → ℕ). max (largest f (matching rest H)) (largest g (matching rest H))) (sym (answer-put false)) (sym (answer-put true))
 
-  step : j < length names → drop j names ≡ get_or names j 0 ∷ drop (j + 1) names
-  step h = drop-cons names j 0 h ∙ ap (λ (n : ℕ). get_or names j 0 ∷ drop n names) (sym (add-one j))
+  pub entries-named : (name : ℕ) → (name ≡ no_name → ⊥) → largest (entries_from table j inside) (matching (name ∷ rest) H) ≡ entries_after (held H name)
+  entries-named name e =
+      over-named (entries_from table j inside) name rest H (ne_eqb name no_name e)
+      ∙ ap (λ (f : ℕ → ℕ). largest f (matching rest H)) (sym (answer-put (held H name)))
 
-  pub entries-unnamed : j < length names → get_or names j 0 ≡ no_name
-      → largest (entries_from table j inside) (matching (drop j names) H) ≡ max (entries_after false) (entries_after true)
-  entries-unnamed h e =
-      ap (λ (l : List ℕ). largest (entries_from table j inside) (matching l H)) (step h)
-      ∙ over-unnamed (entries_from table j inside) (get_or names j 0) (drop (j + 1) names) H (ap (λ (t : ℕ). eqb t no_name) e)
-      ∙ ap₂ (λ (f g : ℕ → ℕ). max (largest f (matching (drop (j + 1) names) H)) (largest g (matching (drop (j + 1) names) H))) (sym (answer-put false)) (sym (answer-put true))
-
-  pub entries-named : j < length names → (get_or names j 0 ≡ no_name → ⊥)
-      → largest (entries_from table j inside) (matching (drop j names) H) ≡ entries_after (held H (get_or names j 0))
-  entries-named h e =
-      ap (λ (l : List ℕ). largest (entries_from table j inside) (matching l H)) (step h)
-      ∙ over-named (entries_from table j inside) (get_or names j 0) (drop (j + 1) names) H (ne_eqb (get_or names j 0) no_name e)
-      ∙ ap (λ (f : ℕ → ℕ). largest f (matching (drop (j + 1) names) H)) (sym (answer-put (held H (get_or names j 0))))
+pub entries-end : (table : ℕ → ℕ) (H j inside : ℕ) → largest (entries_from table j inside) (matching [] H) ≡ table inside
+entries-end table H j inside = over_none (entries_from table j inside) H ∙ ap table (omega arith)
 
 -- from the first name on they are all the sets that match
 pub entries-start : (table : ℕ → ℕ) (names : List ℕ) (H : ℕ) → largest table (matching names H) ≡ largest (entries_from table 0 0) (matching (drop 0 names) H)
@@ -132,16 +124,13 @@ entries-start table names H =
     ap (λ (t : ℕ → ℕ). largest t (matching names H)) whole
 
 -- a callee's entry, from what was read off the tables: of the names that the callee takes
-pub entry_read : (t : List ℕ) (a : Assignment) (j u k n0 n1 n2 n3 r H : ℕ) (names : List ℕ) → u ≡ (node_in t j).U
+pub entry_read : (t : List ℕ) (a : Assignment) (j u k r H : ℕ) (all names : List ℕ) → u ≡ (node_in t j).U
     → k ≡ min (method_at (program_in t) u).k layout.names
-    → n0 ≡ get_or (node_in t j).names 0 0 → n1 ≡ get_or (node_in t j).names 1 0 → n2 ≡ get_or (node_in t j).names 2 0 → n3 ≡ get_or (node_in t j).names 3 0
-    → names ≡ take k (n0 ∷ n1 ∷ n2 ∷ n3 ∷ []) → r ≡ largest (a u) (matching names H)
+    → all ≡ (node_in t j).names → names ≡ take k all → r ≡ largest (a u) (matching names H)
     → r ≡ callee_entry (method_at (program_in t) (node_in t j).U).k (a (node_in t j).U) (node_in t j).names H
-unfolding callee_entry
-entry_read t a j u k n0 n1 n2 n3 r H names eu ek e0 e1 e2 e3 en er =
-    let same : (node_in t j).names ≡ n0 ∷ n1 ∷ n2 ∷ n3 ∷ [] = four-names t j ∙ (cc) in
+unfolding callee_entry tabulate
+entry_read t a j u k r H all names eu ek ea en er =
     let taken : names ≡ take (method_at (program_in t) u).k (node_in t j).names
-    = en ∙ ap (λ (i : ℕ). take i (n0 ∷ n1 ∷ n2 ∷ n3 ∷ [])) ek ∙ take-few (method_at (program_in t) u).k n0 n1 n2 n3
-    ∙ ap (take (method_at (program_in t) u).k) (sym same) in
+    = en ∙ ap₂ take ek ea ∙ take-few (method_at (program_in t) u).k _ _ _ _ in
     er ∙ ap (λ (l : List ℕ). largest (a u) (matching l H)) taken
     ∙ ap (λ (v : ℕ). largest (a v) (matching (take (method_at (program_in t) v).k (node_in t j).names) H)) eu

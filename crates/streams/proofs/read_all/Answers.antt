@@ -13,7 +13,7 @@ front_grows a k n xs ys within fits =
     let rest = ys ++ post_of a k xs in
     sym (ap (λ m. take (m + n) (front ++ rest)) (sym (length-take-le a xs within)) ∙ take-append-add front rest n ∙ ap (λ l. front ++ l) (take-append-le n ys (post_of a k xs) fits))
 
-pub loop-done-preserved : goal.loop-done-preserved
-loop-done-preserved g c =
-    let grown = front_grows c.loop-done.done (length c.loop-done.buffer - c.loop-done.done) c.in-Ok.more c.loop-done.buffer c.read.new.buf c.loop-done.invariant.0 c.in-Ok.ensures.bound.0 in
-    (search rules, subst (Consumes _ _) grown (Consumes-trans _ _ _ _ _ c.loop-done.invariant.1 c.in-Ok.ensures.bytes.0))
+pub loop-count-preserved : goal.loop-count-preserved
+loop-count-preserved g c =
+    let grown = front_grows c.loop-count.count (length c.loop-count.buffer - c.loop-count.count) c.in-Ok.more c.loop-count.buffer c.read.new.buf c.loop-count.invariant.0 c.in-Ok.ensures.bound.0 in
+    (search rules, subst (Consumes _ _) grown (Consumes-trans _ _ _ _ _ c.loop-count.invariant.1 c.in-Ok.ensures.bytes.0))

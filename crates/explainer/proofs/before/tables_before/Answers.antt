@@ -14,32 +14,19 @@ use Rattle.explainer.proofs.Laws.Before.{tables-at, tables-length, past-known}
 use Rattle.explainer.proofs.Laws.Places.{rises-size}
 use Rattle.explainer.proofs.before.tables_before.Goals as goal
 
-pub overflow_mul-used : goal.overflow_mul-used
-overflow_mul-used c = omega (arith, c.methods-used.ensures.is, c.requires.0.read.fits.methods)
-
 pub loop-e-init : goal.loop-e-init
 unfolding blank
-loop-e-init c = (omega arith, done_none (tables_at c.args.rises.now c.args.round) blank blank-length)
+loop-e-init c = done_none (tables_at c.args.rises.now c.args.round) blank blank-length
 
 pub entry_before-requires : goal.entry_before-requires
 entry_before-requires c = let a = c.args in
-    let ready = c.requires.0 in
-    (rises-size a.tables.now a.rises.now ready, omega (arith, c.loop-e-test.true, c.methods-used.ensures.is, ready.read.fits.methods))
-
-pub bounds-entries-e : goal.bounds-entries-e
-bounds-entries-e c = omega (arith, c.loop-e-test.true, c.methods-used.ensures.is, c.requires.0.read.fits.methods, c.loop-e.invariant.1.size)
-
-pub overflow_add-e : goal.overflow_add-e
-overflow_add-e c = omega (arith, c.loop-e-test.true, c.methods-used.ensures.is, c.requires.0.read.fits.methods)
-
-pub loop-e-smaller : goal.loop-e-smaller
-loop-e-smaller c = omega (arith, c.loop-e-test.true)
+    (rises-size a.tables.now a.rises.now c.requires.0, omega (arith, c.methods-used.ensures.is, c.requires.0.read.fits.methods))
 
 pub loop-e-preserved : goal.loop-e-preserved
 loop-e-preserved c = let a = c.args in
     let at = c.loop-e in
-    let inside : at.e < answer_length = omega (arith, c.loop-e-test.true, c.methods-used.ensures.is, c.requires.0.read.fits.methods) in
-    (omega (arith, c.loop-e-test.true), done-store at.e c.entry_before.result (tables_at a.rises.now a.round) blank at.entries at.invariant.1 inside (c.entry_before.ensures.0 ∙ sym (tables-at a.rises.now a.round at.e inside)))
+    let inside : at.e < answer_length = omega (arith, c.methods-used.ensures.is, c.requires.0.read.fits.methods) in
+    done-store at.e c.entry_before.result (tables_at a.rises.now a.round) blank at.entries at.invariant inside (c.entry_before.ensures.0 ∙ sym (tables-at a.rises.now a.round at.e inside))
 
 pub returns : goal.returns
 returns c = let a = c.args in
@@ -47,9 +34,9 @@ returns c = let a = c.args in
     let pre = c.requires in
     let at = c.loop-e in
     let few = pre.0.read.fits.methods in
-    let used : at.e ≡ layout.grades * methods_in (cell t) = omega (arith, at.invariant.0, c.loop-e-test.false, c.methods-used.ensures.is) in
+    let used : at.e ≡ layout.grades * methods_in (cell t) = omega (arith, c.methods-used.ensures.is) in
     let target = tables_at a.rises.now a.round in
     done_all target blank at.entries (tables-length a.rises.now a.round)
-    (done-skip at.e answer_length target blank at.entries at.invariant.1 (omega (arith, used, few))
+    (done-skip at.e answer_length target blank at.entries at.invariant (omega (arith, used, few))
     (λ i l h. tables-at a.rises.now a.round i h ∙ ap (λ (x : List ℕ). risen_count x i a.round) pre.0.rises
     ∙ past-known t pre.0.read a.round pre.1 pre.2 i (omega (arith, used)) h ∙ sym (blank-at i)))

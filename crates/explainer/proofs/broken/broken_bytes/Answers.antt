@@ -1,27 +1,33 @@
 -- `explainer::broken::broken_bytes` meets its contract.
 -- Assumes nothing.
-use mathlib.Core.Path.{sym, ap, ◌∙◌, subst}
-use native.Mathlib.Omega.{arith}
-use Prim.Native.Nat.{ℕ, ◌<◌, ◌/◌}
-use lib.ListN.{length, length-replicate}
-use Rattle.explainer.specs.Code.Lower.{lower_length}
-use Rattle.explainer.specs.Broken.{broken_steps}
-use Rattle.explainer.proofs.Laws.Asked.{not_entered}
-use Rattle.explainer.proofs.Laws.Broken.{no_room, all-put}
+use Rattle.std.proofs.Common.{List, length, sym, ap, ◌∙◌, arith}
+use Rattle.explainer.specs.declared.walk.Step.{Step}
+use Rattle.explainer.specs.Explain.{bytes_over}
+use Rattle.explainer.proofs.Laws.Known.{broken-read, broken-refused}
+use Rattle.explainer.proofs.Laws.Broken.{no_room, all-put, none-put}
 use Rattle.explainer.proofs.broken.broken_bytes.Goals as goal
 
-pub returns-then-bytes-count : goal.returns-then-bytes-count
-returns-then-bytes-count c = let a = c.args in
-    let traced = c.trace-traced.ensures in
-    record { value = traced.all; bytes_after = no_room a.text.now a.bytes.now (subst (λ (n : ℕ). length a.bytes.now / 8 < n) traced.all c.if-bytes-count.true) }
+pub returns-in_default : goal.returns-in_default
+returns-in_default c = let none = broken-refused c.args.text.now c.in_default.field-0 c.in_default.ensures in
+    record { value = ap length none; bytes_after = none-put c.args.text.now c.args.bytes.now none }
 
-pub put_chain-requires : goal.put_chain-requires
-put_chain-requires c = let a = c.args in
-    let r = c.trace-traced.result in
-    let traced = c.trace-traced.ensures in record { going = ((λ h. (traced.along h).going), (λ h. not_entered r.tables r.rises _ (broken_steps a.text.now) r.walk (traced.along h) (length-replicate {A = ℕ} lower_length 0))); n_value = ((λ h. traced.all ∙ sym (ap length (traced.along h).chain)), omega (arith, c.if-bytes-count.false)) }
+pub returns-in_default-find_broken : goal.returns-in_default-find_broken
+returns-in_default-find_broken c = let none = sym c.in_default-find_broken.ensures ∙ broken-read c.args.text.now c.in-Ok.known.tables c.in-Ok.ensures.0 in
+    record { value = ap length none; bytes_after = none-put c.args.text.now c.args.bytes.now none }
 
-pub returns : goal.returns
-returns c = let a = c.args in
-    let r = c.trace-traced.result in
-    let traced = c.trace-traced.ensures in
-    record { value = traced.all; bytes_after = all-put a.text.now a.bytes.now r.tables r.rises r.count r.walk _ traced c.if-bytes-count.false c.put_chain.ensures }
+pub returns-then-chain-room : goal.returns-then-chain-room
+returns-then-chain-room c = let a = c.args in
+    let gives = c.in-Some.ensures in
+    let same = broken-read a.text.now c.in-Ok.known.tables c.in-Ok.ensures.0 in
+    let all = gives.all ∙ ap length same in
+    record {
+      value = all;
+      bytes_after =
+          c.fill.ensures ∙ ap (λ (s : List Step). bytes_over s a.bytes.now) (gives.along.chain ∙ same)
+          ∙ all-put a.text.now a.bytes.now (omega (arith, all, c.room.ensures, c.if-chain-room.true));
+    }
+
+pub returns-else-chain-room : goal.returns-else-chain-room
+returns-else-chain-room c = let a = c.args in
+    let all = c.in-Some.ensures.all ∙ ap length (broken-read a.text.now c.in-Ok.known.tables c.in-Ok.ensures.0) in
+    record { value = all; bytes_after = no_room a.text.now a.bytes.now (omega (arith, all, c.room.ensures, c.if-chain-room.false)) }

@@ -1,6 +1,4 @@
-use mathlib.Core.Path.{◌≡◌}
-use Prim.Native.Nat.{ℕ, ◌+◌, ◌*◌, ◌-◌, ◌≤◌, ◌<◌}
-use lib.ListN.{get_or}
+use Rattle.std.proofs.Common.{ℕ, ◌≡◌, ◌+◌, ◌*◌, ◌<◌, get_or}
 use Rattle.frames.specs.Layout.{layout}
 use Rattle.frames.specs.Program.{method_at, node_at}
 use Rattle.meaning.specs.Meaning.{meaning}
@@ -9,7 +7,9 @@ use Rattle.explainer.specs.Code.Lower.{Lower}
 use Rattle.explainer.proofs.lower.grade_node.Given as goal
 
 abbrev pub invariant-loop-set : goal.invariant-loop-set
-invariant-loop-set l = (l.set ≤ l.sets) × Lower l.tables (tables_in l.grades) l.m l.n l.lower × ((S : ℕ) → S < l.set → get_or l.lower (layout.grades * l.n + S) 0 ≡ meaning (program_in l.tables) (tables_in l.grades) (node_at (method_at (program_in l.tables) l.m)) l.n S)
-
-abbrev pub decreases-loop-set : goal.decreases-loop-set
-decreases-loop-set l = l.sets - l.set
+invariant-loop-set l =
+    record {
+      lower : Lower l.tables (tables_in l.grades) l.m l.n l.lower;
+      row : (S : ℕ) → S < l.set
+          → get_or l.lower (layout.grades * l.n + S) 0 ≡ meaning (program_in l.tables) (tables_in l.grades) (node_at (method_at (program_in l.tables) l.m)) l.n S;
+    }

@@ -1,15 +1,17 @@
 -- `explainer::picks::picked_part` meets its contract.
 -- Assumes nothing.
-use mathlib.Core.Path.{subst}
-use Prim.Native.Nat.{ℕ, ◌≤◌}
-use Rattle.explainer.specs.Code.Picks.{same, twice, nothing}
+use Rattle.std.proofs.Common.{sym, subst}
+use Rattle.explainer.specs.Code.Picks.{PickedAt, same, twice, nothing}
 use Rattle.explainer.proofs.picks.picked_part.Goals as goal
 
-pub returns-then-part-count : goal.returns-then-part-count
-returns-then-part-count c = same c.first_part-part.result c.first_part-part.ensures c.if-part-count.true
+pub returns-in-Some : goal.returns-in-Some
+returns-in-Some c = same c.in-Some.part c.in-Some.ensures.0 c.in-Some.ensures.1
 
-pub returns-then-whole-eq3 : goal.returns-then-whole-eq3
-returns-then-whole-eq3 c = twice c.last_atomic-part.result (subst (λ (x : ℕ). c.args.count ≤ x) c.first_part-part.ensures c.if-part-count.false) c.if-whole-eq3.true c.last_atomic-part.ensures
+pub returns-then-whole-ne3 : goal.returns-then-whole-ne3
+returns-then-whole-ne3 c = nothing c.in_default.ensures (λ three. absurd (c.if-whole-ne3.true three))
+
+pub returns-in_err-part : goal.returns-in_err-part
+returns-in_err-part c = subst (PickedAt c.args.whole _ _) (sym c.from_residual.ensures) (nothing c.in_default.ensures (λ _. c.in_err-part.ensures))
 
 pub returns : goal.returns
-returns c = nothing (subst (λ (x : ℕ). c.args.count ≤ x) c.first_part-part.ensures c.if-part-count.false) c.if-whole-eq3.false
+returns c = twice c.in_ok-part.part c.in_default.ensures c.if-whole-ne3.false c.in_ok-part.ensures

@@ -24,9 +24,6 @@ first_round-round-requires c = let a = c.args in
     let small = methods-few t a.rises.now ready a.m been.entry.method in
     (rises-size t a.rises.now ready, omega (arith, few, small), grade-few t a.rises.now ready a.m a.set a.grade been)
 
-pub at_root-requires : goal.at_root-requires
-at_root-requires c = (c.requires.ready.read, c.requires.has_been.entry)
-
 pub returns : goal.returns
 returns c = let a = c.args in
     let t = a.tables.now in

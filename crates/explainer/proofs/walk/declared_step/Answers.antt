@@ -3,6 +3,8 @@
 use mathlib.Core.Path.{sym, ap, ◌∙◌}
 use native.Mathlib.Omega.{arith}
 use lib.ListN.{get_or}
+use Prim.Native.Nat.{ℕ}
+use Rattle.frames.specs.Tables.{cell, method_of}
 use Rattle.frames.specs.Program.{Method}
 use Rattle.meaning.specs.Lowest.{method_count, declared_table}
 use Rattle.reasons.specs.Steps.{declared_step}
@@ -20,13 +22,10 @@ overflow_cast-result-2 c = let given = c.requires in
     let nodes = (given.read.well_formed.methods c.args.at.method given.entry.method).few_nodes in
     omega (arith, given.root, root_below (program_in c.args.tables.now) given.read.well_formed c.args.at.method given.entry.method, nodes)
 
-pub overflow_cast-result-3 : goal.overflow_cast-result-3
-overflow_cast-result-3 c = omega (arith, c.entry.ensures.small)
-
 pub returns : goal.returns
 unfolding declared_step declared_table
 returns c = let a = c.args in
     let t = a.tables.now in
     let given = c.requires in
-    let grade = c.entry.ensures.is ∙ sym (ap (λ (x : Method). get_or x.table a.at.set 0) (method-in t a.at.method (omega (arith, method-count t, given.entry.method)))) in
+    let grade = c.entry.ensures.is ∙ ap (λ (h : ℕ). get_or (method_of (cell t) a.at.method).table h 0) c.from.ensures ∙ sym (ap (λ (x : Method). get_or x.table a.at.set 0) (method-in t a.at.method (omega (arith, method-count t, given.entry.method)))) in
     λ i. record { method = a.at.method; node = given.root i; set = a.at.set; round = 0; grade = grade i; rule = 7 }

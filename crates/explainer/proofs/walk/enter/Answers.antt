@@ -16,13 +16,6 @@ use Rattle.explainer.proofs.walk.enter.Goals as goal
 in_tables : (t : List ℕ) (b b' : Assignment) (m n : ℕ) (lower : List ℕ) → b ≡ b' → Lower t b m n lower → Lower t b' m n lower
 in_tables t b b' m n lower e known = subst (λ (x : Assignment). Lower t x m n lower) e known
 
-pub tables_before-before-requires : goal.tables_before-before-requires
-tables_before-before-requires c = let pre = c.requires.ready in
-    (pre.0, pre.1.fits.round, pre.1.fits.no_later)
-
-pub grade_nodes-requires : goal.grade_nodes-requires
-grade_nodes-requires c = record { read = (c.requires.ready.0.read, c.requires.ready.1.first); lower_len = c.requires.lower_len }
-
 pub returns : goal.returns
 returns c = let a = c.args in
     let t = a.tables.now in

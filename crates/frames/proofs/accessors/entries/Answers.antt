@@ -1,26 +1,17 @@
--- `entries` meets its contract, number by number.
+-- `entries` meets its contract: four names have 16 held sets, and more names no fewer.
 -- Assumes nothing.
-use native.Mathlib.Omega.{arith}
-use Prim.Native.Nat.{ℕ, ◌≤◌, ◌^◌}
-use lib.Pow.{pow_mono}
+use Rattle.std.proofs.Common.{arith, ◌≡◌, ◌≤◌, ℕ, ◌^◌, ⊎_elim, min, ◌*◌, ◌%◌, ◌<◌}
+use Rattle.std.proofs.Math.Pow.{pow_mono}
+use Rattle.counting.specs.Laws.Tests.{lt-or-le}
 use Rattle.frames.specs.Layout.{layout}
 use Rattle.frames.proofs.accessors.entries.Goals as goal
 
--- 16 held sets from four names on
-many : (k : ℕ) → layout.most_names ≤ k → layout.grades ≤ 2 ^ k
-many k h = pow_mono h
+shifted : (k m : ℕ) → m ≡ min k layout.most_names → 1 * 2 ^ m % 2 ^ 64 ≡ min (2 ^ k) layout.grades
+shifted k m e =
+    ⊎_elim
+    (λ (l : k < 4). let same : m ≡ k = omega (arith, e) in rw same (omega (arith, pow_mono {i = k} {j = 4} (omega arith))))
+    (λ (g : 4 ≤ k). let four : m ≡ 4 = omega (arith, e) in rw four (omega (arith, pow_mono {i = 4} {j = k} g)))
+    (lt-or-le k 4)
 
-pub returns-in-0 : goal.returns-in-0
-returns-in-0 c = rw c.in-0.is
-
-pub returns-in-1 : goal.returns-in-1
-returns-in-1 c = rw c.in-1.is
-
-pub returns-in-2 : goal.returns-in-2
-returns-in-2 c = rw c.in-2.is
-
-pub returns-in-3 : goal.returns-in-3
-returns-in-3 c = rw c.in-3.is
-
-pub returns-in_default : goal.returns-in_default
-returns-in_default c = omega (arith, many c.args.k (omega arith))
+pub returns : goal.returns
+returns c = shifted c.args.k c.min.result c.min.ensures

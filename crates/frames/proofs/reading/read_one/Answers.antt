@@ -1,137 +1,93 @@
 -- `read_one` meets its contract: the loop carries what `Going` says, and each way out is one of the definition's.
 -- Assumes nothing.
+use Rattle.std.specs.Prelude.{true, false}
 use Rattle.frames.specs.Layout.{layout, tables_length}
-use Rattle.frames.specs.Code.Marks.{marked_by}
-use lib.Dec.{eqb}
-use mathlib.Core.Bool.{cond}
-use mathlib.Core.List.{List}
+use denote.Enum.Bare.{sameb}
+use borrow.Author.Tests.{eq-eqb, ne_eqb}
+use Rattle.frames.specs.contracts.Due as contract
+use Rattle.frames.specs.declared.Due.{Due}
+use Rattle.frames.specs.declared.Due.TheVariants.{Header, Field, Method, Node, End}
 use Rattle.frames.specs.declared.Fault.TheVariants.{Misplaced}
-use Rattle.frames.specs.declared.OneText.{OneText}
-use Rattle.frames.specs.Laws.Going.{going-is, going-open, going-low, going-few, going-marks, going-fault}
-use Rattle.frames.specs.Laws.OneText.{one-starts, one-short, one-stops, one-goes-on, one-refused, one-read-whole, next-at, lent-line, next-rest, going-method}
-use Rattle.frames.specs.Laws.Steps.{is-end-true, is-end-false, is-sound-true, is-sound-false}
-use Rattle.lines.specs.Lines.{lines}
-use lib.ListN.{drop}
+use Rattle.frames.specs.Laws.Going.{going-is, going-low, going-few, going-marks}
+use Rattle.frames.specs.Laws.OneText.{one-starts, one-short, one-stops, one-refused, one-read-whole, going-method, turn-open, turn-next, turn-fault, turn-goes-on}
 use Prim.Native.Nat.{ℕ}
-use Rattle.frames.specs.Tables.{cell}
-use mathlib.Core.Path.{refl, sym, ap, ◌∙◌}
+use mathlib.Core.Path.{◌≡◌, refl, sym, ap, ◌∙◌}
 use native.Mathlib.Omega.{arith}
-use Rattle.counting.specs.Counting.{zeros}
-use Rattle.lines.specs.Laws.Lines.{line_at}
 use Rattle.counting.specs.Laws.Lists.{zeros-are}
 use Rattle.frames.proofs.reading.read_one.Goals as goal
+
+-- what `==` says of the frame that is due
+is-end : (d : Due) → sameb contract.the_type d End ≡ true → d ≡ End
+is-end Header e = cc
+is-end Field e = cc
+is-end Method e = cc
+is-end Node e = cc
+is-end End e = refl
+
+not-end : (d : Due) → sameb contract.the_type d End ≡ false → d ≡ End → ⊥
+not-end d e h = let z : true ≡ false = sym (ap (λ (x : Due). sameb contract.the_type x End) h) ∙ e in let y : ◌≡◌ {A = ℕ} 0 1 = cc in omega arith
 
 pub loop-named-init : goal.loop-named-init
 loop-named-init c = one-starts _ _ _ _ (zeros-are tables_length) (zeros-are layout.most_nodes)
 
-pub slice_bounds-due-end : goal.slice_bounds-due-end
-slice_bounds-due-end c = sym c.loop-named.invariant.wide
+pub overflow_sub-i : goal.overflow_sub-i
+overflow_sub-i c = omega (arith, c.loop-named.invariant.counted)
 
-pub returns-then-is_end : goal.returns-then-is_end
-returns-then-is_end c = one-read-whole c.loop-named.invariant (going-is c.loop-named.invariant c.due-d.result c.due-d.ensures ∙ is-end-true _ (sym c.is_end.ensures ∙ c.if-is_end.true))
+pub returns-then-eq : goal.returns-then-eq
+returns-then-eq c = let go = c.loop-named.invariant in
+    one-read-whole go (going-is go _ c.due-d.ensures ∙ is-end _ (sym c.eq.ensures ∙ c.if-eq.true))
 
-pub outcome_of-requires : goal.outcome_of-requires
-outcome_of-requires c = going-low c.loop-named.invariant (going-open c.loop-named.invariant c.due-d.result c.due-d.ensures (sym c.is_end.ensures ∙ c.if-is_end.false))
+pub refusal_of-requires : goal.refusal_of-requires
+refusal_of-requires c = let go = c.loop-named.invariant in
+    going-low go (turn-open _ go c.due-d.ensures (not-end _ (sym c.eq.ensures ∙ c.if-eq.false)))
 
-pub returns-then-text-at : goal.returns-then-text-at
-returns-then-text-at c = one-refused _ _ Misplaced _ _ (one-short c.loop-named.invariant (going-open c.loop-named.invariant c.due-d.result c.due-d.ensures (sym c.is_end.ensures ∙ c.if-is_end.false)) c.if-text-at.true) (λ e. is-sound-false Misplaced refl e)
-    (ap (λ (r : OneText). r.outcome) c.refused_at.ensures ∙ c.outcome_of.ensures) (ap (λ (r : OneText). r.tables) c.refused_at.ensures)
+pub returns-then-text-place : goal.returns-then-text-place
+returns-then-text-place c = let go = c.loop-named.invariant in
+    let open-at = turn-open _ go c.due-d.ensures (not-end _ (sym c.eq.ensures ∙ c.if-eq.false)) in
+    one-refused Misplaced _ _ (one-short go open-at c.if-text-place.true) c.refusal_of.ensures
 
-pub slice_bounds-take_line-count : goal.slice_bounds-take_line-count
-slice_bounds-take_line-count c = let go = c.loop-named.invariant in
-    let flag = sym c.is_end.ensures ∙ c.if-is_end.false in
-    let opens = going-open go c.due-d.result c.due-d.ensures flag in
-    let n = next-at _ _ go opens c.if-text-at.false c.past_line-next.ensures in
-    n.from
+pub slice_bounds-line-count : goal.slice_bounds-line-count
+slice_bounds-line-count c = (turn-next _ c.loop-named.invariant c.due-d.ensures (not-end _ (sym c.eq.ensures ∙ c.if-eq.false)) c.if-text-place.false c.past_line-next.ensures).from
 
-pub slice_bounds-take_line-start : goal.slice_bounds-take_line-start
-slice_bounds-take_line-start c = let go = c.loop-named.invariant in
-    let flag = sym c.is_end.ensures ∙ c.if-is_end.false in
-    let opens = going-open go c.due-d.result c.due-d.ensures flag in
-    let n = next-at _ _ go opens c.if-text-at.false c.past_line-next.ensures in
-    n.from
+pub slice_bounds-line-start : goal.slice_bounds-line-start
+slice_bounds-line-start c = (turn-next _ c.loop-named.invariant c.due-d.ensures (not-end _ (sym c.eq.ensures ∙ c.if-eq.false)) c.if-text-place.false c.past_line-next.ensures).from
 
-pub slice_bounds-take_line-end : goal.slice_bounds-take_line-end
-slice_bounds-take_line-end c = let go = c.loop-named.invariant in
-    let flag = sym c.is_end.ensures ∙ c.if-is_end.false in
-    let opens = going-open go c.due-d.result c.due-d.ensures flag in
-    let n = next-at _ _ go opens c.if-text-at.false c.past_line-next.ensures in
-    n.high
+pub slice_bounds-line-end : goal.slice_bounds-line-end
+slice_bounds-line-end c = (turn-next _ c.loop-named.invariant c.due-d.ensures (not-end _ (sym c.eq.ensures ∙ c.if-eq.false)) c.if-text-place.false c.past_line-next.ensures).high
 
-pub slice_bounds-take_line-end-in-loop-named : goal.slice_bounds-take_line-end-in-loop-named
-slice_bounds-take_line-end-in-loop-named c = sym c.loop-named.invariant.wide
+pub take_line-requires : goal.take_line-requires
+take_line-requires c = let go = c.loop-named.invariant in
+    let open-at = turn-open _ go c.due-d.ensures (not-end _ (sym c.eq.ensures ∙ c.if-eq.false)) in
+    (going-low go open-at, (go.wide, omega (arith, going-few go open-at, going-marks go)))
 
-pub slice_bounds-take_line-end-in-loop-named-2 : goal.slice_bounds-take_line-end-in-loop-named-2
-slice_bounds-take_line-end-in-loop-named-2 c = sym (going-marks c.loop-named.invariant)
+pub refusal_of-requires-in-Some : goal.refusal_of-requires-in-Some
+refusal_of-requires-in-Some c = let go = c.loop-named.invariant in
+    going-low go (turn-open _ go c.due-d.ensures (not-end _ (sym c.eq.ensures ∙ c.if-eq.false)))
 
-pub take_line-fault-requires : goal.take_line-fault-requires
-take_line-fault-requires c = let go = c.loop-named.invariant in
-    let flag = sym c.is_end.ensures ∙ c.if-is_end.false in
-    let opens = going-open go c.due-d.result c.due-d.ensures flag in
-    let n = next-at _ _ go opens c.if-text-at.false c.past_line-next.ensures in
-    (going-low go opens, (go.wide, omega (arith, going-few go opens, going-marks go)))
-
-pub outcome_of-requires-then-not-is_sound : goal.outcome_of-requires-then-not-is_sound
-outcome_of-requires-then-not-is_sound c = going-low c.loop-named.invariant (going-open c.loop-named.invariant c.due-d.result c.due-d.ensures (sym c.is_end.ensures ∙ c.if-is_end.false))
-
-pub returns-then-not-is_sound : goal.returns-then-not-is_sound
-returns-then-not-is_sound c = let go = c.loop-named.invariant in
-    let is = going-is go c.due-d.result c.due-d.ensures in
-    let flag = sym c.is_end.ensures ∙ c.if-is_end.false in
-    let more = is-end-false c.due-d.result flag in
-    let opens = going-open go c.due-d.result c.due-d.ensures flag in
-    let n = next-at _ _ go opens c.if-text-at.false c.past_line-next.ensures in
-    let text = c.args.text.now in
-    let ls = lines (drop c.args.start text) in
-    let its = lent-line text ls c.loop-named.place c.past_line-next.result c.loop-named.i c.if-text-at.false go.rest n in
-    let same = c.take_line-fault.ensures.is ∙ going-fault go _ its _ is more in
-    let bad = is-sound-false c.take_line-fault.result (sym c.is_sound.ensures ∙ c.if-not-is_sound.true) in
-    one-refused _ _ c.take_line-fault.result _ _ (one-stops go opens c.if-text-at.false c.take_line-fault.result same bad) bad
-    (ap (λ (r : OneText). r.outcome) c.refused_at-then-not-is_sound.ensures ∙ c.outcome_of-then-not-is_sound.ensures) (ap (λ (r : OneText). r.tables) c.refused_at-then-not-is_sound.ensures)
+pub returns-in-Some : goal.returns-in-Some
+returns-in-Some c = let go = c.loop-named.invariant in
+    let more = not-end _ (sym c.eq.ensures ∙ c.if-eq.false) in
+    let same = turn-fault _ go c.due-d.ensures more c.if-text-place.false c.past_line-next.ensures c.take_line.ensures in
+    one-refused c.in-Some.fault _ _ (one-stops go (turn-open _ go c.due-d.ensures more) c.if-text-place.false c.in-Some.fault (sym same ∙ c.in-Some.is)) c.refusal_of-in-Some.ensures
 
 pub next_stand-stand-requires : goal.next_stand-stand-requires
 next_stand-stand-requires c = let go = c.loop-named.invariant in
-    let is = going-is go c.due-d.result c.due-d.ensures in
-    let flag = sym c.is_end.ensures ∙ c.if-is_end.false in
-    let more = is-end-false c.due-d.result flag in
-    let opens = going-open go c.due-d.result c.due-d.ensures flag in
-    let n = next-at _ _ go opens c.if-text-at.false c.past_line-next.ensures in
-    let text = c.args.text.now in
-    let ls = lines (drop c.args.start text) in
-    let its = lent-line text ls c.loop-named.place c.past_line-next.result c.loop-named.i c.if-text-at.false go.rest n in
-    let same = c.take_line-fault.ensures.is ∙ going-fault go _ its _ is more in
-    let ok = is-sound-true c.take_line-fault.result (sym c.is_sound.ensures ∙ c.if-not-is_sound.false) in
-    (omega (arith, going-method go (sym same ∙ ok)), omega (arith, going-few go opens))
+    let more = not-end _ (sym c.eq.ensures ∙ c.if-eq.false) in
+    let same = turn-fault _ go c.due-d.ensures more c.if-text-place.false c.past_line-next.ensures c.take_line.ensures in
+    (omega (arith, going-method go (sym same ∙ c.in_default.is)), omega (arith, going-few go (turn-open _ go c.due-d.ensures more)))
 
-pub overflow_add-i : goal.overflow_add-i
-overflow_add-i c = let go = c.loop-named.invariant in
-    let flag = sym c.is_end.ensures ∙ c.if-is_end.false in
-    let opens = going-open go c.due-d.result c.due-d.ensures flag in
-    let n = next-at _ _ go opens c.if-text-at.false c.past_line-next.ensures in
-    omega (arith, going-low go opens)
-
-pub loop-named-smaller : goal.loop-named-smaller
-loop-named-smaller c = let go = c.loop-named.invariant in
-    let flag = sym c.is_end.ensures ∙ c.if-is_end.false in
-    let opens = going-open go c.due-d.result c.due-d.ensures flag in
-    let n = next-at _ _ go opens c.if-text-at.false c.past_line-next.ensures in
+pub loop-named-smaller-then-stand-eq0 : goal.loop-named-smaller-then-stand-eq0
+loop-named-smaller-then-stand-eq0 c = let n = turn-next _ c.loop-named.invariant c.due-d.ensures (not-end _ (sym c.eq.ensures ∙ c.if-eq.false)) c.if-text-place.false c.past_line-next.ensures in
     omega (arith, n.low, n.high)
 
+pub loop-named-smaller : goal.loop-named-smaller
+loop-named-smaller c = let n = turn-next _ c.loop-named.invariant c.due-d.ensures (not-end _ (sym c.eq.ensures ∙ c.if-eq.false)) c.if-text-place.false c.past_line-next.ensures in
+    omega (arith, n.low, n.high)
+
+pub loop-named-preserved-then-stand-eq0 : goal.loop-named-preserved-then-stand-eq0
+loop-named-preserved-then-stand-eq0 c = turn-goes-on _ c.loop-named.invariant c.due-d.ensures (not-end _ (sym c.eq.ensures ∙ c.if-eq.false)) c.if-text-place.false c.past_line-next.ensures
+    c.take_line.ensures c.in_default.is _ c.next_stand-stand.ensures _ (zeros-are layout.most_nodes ∙ sym (rw (eq-eqb _ 0 c.if-stand-eq0.true)))
+
 pub loop-named-preserved : goal.loop-named-preserved
-loop-named-preserved c = let go = c.loop-named.invariant in
-    let is = going-is go c.due-d.result c.due-d.ensures in
-    let flag = sym c.is_end.ensures ∙ c.if-is_end.false in
-    let more = is-end-false c.due-d.result flag in
-    let opens = going-open go c.due-d.result c.due-d.ensures flag in
-    let n = next-at _ _ go opens c.if-text-at.false c.past_line-next.ensures in
-    let text = c.args.text.now in
-    let ls = lines (drop c.args.start text) in
-    let its = lent-line text ls c.loop-named.place c.past_line-next.result c.loop-named.i c.if-text-at.false go.rest n in
-    let same = c.take_line-fault.ensures.is ∙ going-fault go _ its _ is more in
-    let ok = is-sound-true c.take_line-fault.result (sym c.is_sound.ensures ∙ c.if-not-is_sound.false) in
-    let tb = c.take_line-fault.ensures.tables ok in
-    one-goes-on go _ its _ is more (sym same ∙ ok) _ _ (next-rest text ls c.loop-named.place c.past_line-next.result c.loop-named.i c.if-text-at.false go.rest n)
-    (line_at text ls c.loop-named.place.at c.loop-named.i c.if-text-at.false go.rest).inside n.line _ tb _ c.next_stand-stand.ensures _
-    (c.marks_for-named.ensures
-    ∙ ap (λ (x : List ℕ). cond (eqb c.next_stand-stand.result.number 0) (zeros layout.most_nodes) x)
-    (c.take_line-fault.ensures.marks ok ∙ ap (λ (u : List ℕ). marked_by (cell u) c.loop-named.named c.due-d.result c.loop-named.i) (sym tb)))
+loop-named-preserved c = turn-goes-on _ c.loop-named.invariant c.due-d.ensures (not-end _ (sym c.eq.ensures ∙ c.if-eq.false)) c.if-text-place.false c.past_line-next.ensures
+    c.take_line.ensures c.in_default.is _ c.next_stand-stand.ensures _ (sym (rw (ne_eqb _ 0 c.if-stand-eq0.false)))

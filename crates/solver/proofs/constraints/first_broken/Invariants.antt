@@ -1,5 +1,5 @@
 use mathlib.Core.Path.{◌≡◌}
-use Prim.Native.Nat.{◌-◌, ◌≤◌}
+use Prim.Native.Nat.{◌-◌}
 use Rattle.frames.specs.Frames.{methods_in}
 use Rattle.frames.specs.Tables.{cell}
 use Rattle.counting.specs.Counting.{up_to}
@@ -10,8 +10,5 @@ use Rattle.solver.proofs.constraints.first_broken.Given as goal
 
 abbrev pub invariant-loop-m : goal.invariant-loop-m
 invariant-loop-m l =
-    (l.methods ≡ methods_in (cell l.tables)) × (l.m ≤ l.methods)
-    × (finding (program_in l.tables) (tables_in l.grades) (up_to (methods_in (cell l.tables))) ≡ first_broken (program_in l.tables) (tables_in l.grades) (lists_from (closed_of (program_in l.tables)) l.m (l.methods - l.m)))
-
-abbrev pub decreases-loop-m : goal.decreases-loop-m
-decreases-loop-m l = l.methods - l.m
+    finding (program_in l.placed.tables.now) (tables_in l.grades) (up_to (methods_in (cell l.placed.tables.now)))
+    ≡ first_broken (program_in l.placed.tables.now) (tables_in l.grades) (lists_from (closed_of (program_in l.placed.tables.now)) l.m (methods_in (cell l.placed.tables.now) - l.m))

@@ -1,79 +1,82 @@
 -- `solver::constraints::forks_broken` meets its contract. The loop's invariant: the first broken constraint is that of the forks not passed yet.
 -- Assumes nothing.
-use mathlib.Core.Path.{◌≡◌, sym, ap, ◌∙◌}
+use mathlib.Core.Path.{◌≡◌, refl, sym, ap, ◌∙◌}
 use native.Mathlib.Omega.{arith}
-use Prim.Native.Nat.{◌+◌, ◌-◌, ◌<◌}
+use Prim.Native.Nat.{ℕ, ◌+◌, ◌-◌, ◌<◌}
 use Rattle.frames.specs.Links.{node_count}
+use Rattle.frames.specs.Ops.{op_named, number_of}
+use Rattle.frames.specs.Laws.Ops.{named_number}
+use Rattle.frames.specs.declared.ops.Op.TheVariants.{Fork}
 use Rattle.frames.specs.Tables.{cell}
 use Rattle.frames.specs.Laws.Tables.{nodes-length}
 use Rattle.meaning.specs.Constraints.{first_broken, fork_at, forked_table, named_method}
 use Rattle.counting.specs.Counting.{only_if}
 use mathlib.Core.List.{◌++◌}
 use Rattle.meaning.specs.Lowest.{entry_count}
-use Rattle.solver.specs.Laws.Findings.{lists_from, fork_of, forks-all, lists-next, lists-end, is-fork, no-fork, fork-names, fork-set, if-not, if-broken, if-met}
+use Rattle.solver.specs.Laws.Findings.{lists_from, fork_of, forks-all, lists-next, lists-end, is-fork, no-fork, fork-names, fork-set, if-not, if-broken, if-met, no-set}
+use Rattle.solver.specs.Nodes.{node_in}
 use Rattle.solver.specs.Flat.{program_in, tables_in}
 use Rattle.solver.specs.Findings.{found}
+use Rattle.solver.specs.Code.Forks.{fork_set}
 use Rattle.solver.proofs.constraints.forks_broken.Goals as goal
-use Rattle.solver.proofs.constraints.forks_broken.Goals.{then-op-eq9+else-set-count, else-op-eq9}
+use Rattle.solver.proofs.constraints.forks_broken.Goals.{in-Fork+in_default-fork_broken, in_default}
 
-pub loop-n-init : goal.loop-n-init
-loop-n-init c = let a = c.args in
-    let t = a.tables.now in
-    let count : c.node_count-nodes.result ≡ node_count (cell t) a.m = c.node_count-nodes.ensures.is ∙ nodes-length (cell t) a.m in (
-      count,
-      c.node_count-nodes.ensures.small,
-      omega arith,
-      ap (first_broken (program_in t) (tables_in a.grades.now)) (forks-all t a.m c.node_count-nodes.result c.requires.at.method count),
-    )
+pub loop-node-init : goal.loop-node-init
+loop-node-init c = let a = c.args in
+    let t = a.method.tables.now in
+    ap (first_broken (program_in t) (tables_in a.grades.now)) (forks-all t a.method.number (node_count (cell t) a.method.number) c.args.method.at.method refl)
 
-pub fork_broken-set-requires : goal.fork_broken-set-requires
-fork_broken-set-requires c = record { fits = c.requires.fits; u_bound = c.used-u.ensures.small; count_value = c.sets_of-count.ensures }
+-- a number that names `Fork` is 9
+nine : {n : ℕ} → op_named n ≡ Fork → n ≡ 9
+nine {n = n} e = sym (named_number n) ∙ ap number_of e
 
-pub returns-then-set-count : goal.returns-then-set-count
-returns-then-set-count c = let a = c.args in
-    let t = a.tables.now in
+pub returns-in-Some : goal.returns-in-Some
+returns-in-Some c = let a = c.args in
+    let t = a.method.tables.now in
     let p = program_in t in
     let g = tables_in a.grades.now in
-    let at = c.loop-n in
+    let at = c.loop-node in
     let given = c.requires in
-    let inside : at.n < node_count (cell t) a.m = omega (arith, at.invariant.0) in
+    let count = c.node_count-node-end.ensures.is ∙ nodes-length (cell t) a.method.number in
+    let here = (node_in t (a.method.first + at.node)).op in
+    let inside : at.node < node_count (cell t) a.method.number = omega (arith, count) in
     let u = c.used-u.result in
-    let named : u ≡ named_method p a.m at.n = fork-names t a.m a.first at.n given.at inside u c.used-u.ensures.is in
+    let named : u ≡ named_method p a.method.number at.node = fork-names t a.method.number a.method.first at.node c.args.method.at inside u c.used-u.ensures.is in
     ap found
-    (sym (at.invariant.3 ∙ ap (first_broken p g) (lists-next (fork_of p a.m) at.n c.node_count-nodes.result (omega arith))
-    ∙ if-broken p g (fork_at p a.m at.n) (forked_table a.m at.n) _ c.fork_broken-set.result
-    (is-fork t a.m a.first at.n given.at inside c.op.result c.op.ensures.is c.if-op-eq9.true)
-    (c.fork_broken-set.ensures ∙ fork-set p g a.m at.n u named)
-    (omega (arith, c.sets_of-count.ensures, ap (entry_count p) named))))
+    (sym (at.invariant ∙ ap (first_broken p g) (lists-next (fork_of p a.method.number) at.node (node_count (cell t) a.method.number) inside)
+    ∙ if-broken p g (fork_at p a.method.number at.node) (forked_table a.method.number at.node) _ c.in-Some.set
+    (is-fork t a.method.number a.method.first at.node c.args.method.at inside here refl (nine (sym c.op_at.ensures ∙ c.in-Fork.is)))
+    (c.in-Some.ensures.1 ∙ fork-set p g a.method.number at.node u named)
+    (omega (arith, c.in-Some.ensures.0, ap (entry_count p) named))))
 
-pub loop-n-preserved : goal.loop-n-preserved
-loop-n-preserved c = let a = c.args in
-    let t = a.tables.now in
+pub loop-node-preserved : goal.loop-node-preserved
+unfolding op_named
+loop-node-preserved c = let a = c.args in
+    let t = a.method.tables.now in
     let p = program_in t in
     let g = tables_in a.grades.now in
-    let at = c.loop-n in
+    let at = c.loop-node in
     let given = c.requires in
-    let nodes = c.node_count-nodes.result in
-    let inside : at.n < node_count (cell t) a.m = omega (arith, at.invariant.0) in
-    let rest = lists_from (fork_of p a.m) (at.n + 1) (nodes - (at.n + 1)) in
-    let passed : first_broken p g (only_if (fork_at p a.m at.n) (forked_table a.m at.n) ++ rest) ≡ first_broken p g rest
-    = elim c.if-op-eq9.branch [
-      | then-op-eq9+else-set-count w ↦
-          let named : w.used-u.result ≡ named_method p a.m at.n = fork-names t a.m a.first at.n given.at inside w.used-u.result w.used-u.ensures.is in
-          if-met p g (fork_at p a.m at.n) (forked_table a.m at.n) rest w.fork_broken-set.result
-          (is-fork t a.m a.first at.n given.at inside c.op.result c.op.ensures.is w.if-op-eq9.true)
-          (w.fork_broken-set.ensures ∙ fork-set p g a.m at.n w.used-u.result named)
-          (omega (arith, w.sets_of-count.ensures, ap (entry_count p) named, w.if-set-count.false))
-      | else-op-eq9 w ↦ if-not p g (fork_at p a.m at.n) (forked_table a.m at.n) rest
-          (no-fork t a.m a.first at.n given.at inside c.op.result c.op.ensures.is w.if-op-eq9.false)
-    ] in (
-      at.invariant.0,
-      at.invariant.1,
-      omega arith,
-      at.invariant.3 ∙ ap (first_broken p g) (lists-next (fork_of p a.m) at.n nodes (omega arith)) ∙ passed,
-    )
+    let nodes = node_count (cell t) a.method.number in
+    let count = c.node_count-node-end.ensures.is ∙ nodes-length (cell t) a.method.number in
+    let here = (node_in t (a.method.first + at.node)).op in
+    let inside : at.node < nodes = omega (arith, count) in
+    let rest = lists_from (fork_of p a.method.number) (at.node + 1) (nodes - (at.node + 1)) in
+    let passed : first_broken p g (only_if (fork_at p a.method.number at.node) (forked_table a.method.number at.node) ++ rest) ≡ first_broken p g rest
+    = elim c.match-op_at.branch [
+      | in-Fork+in_default-fork_broken w ↦
+          let named : w.used-u.result ≡ named_method p a.method.number at.node = fork-names t a.method.number a.method.first at.node c.args.method.at inside w.used-u.result w.used-u.ensures.is in
+          if-met p g (fork_at p a.method.number at.node) (forked_table a.method.number at.node) rest (fork_set p g w.used-u.result)
+          (is-fork t a.method.number a.method.first at.node c.args.method.at inside here refl (nine (sym c.op_at.ensures ∙ w.in-Fork.is)))
+          (fork-set p g a.method.number at.node w.used-u.result named)
+          (omega (arith, no-set _ _ w.fork_broken.result w.fork_broken.ensures w.in_default-fork_broken.not-Some, ap (entry_count p) named))
+      | in_default w ↦ if-not p g (fork_at p a.method.number at.node) (forked_table a.method.number at.node) rest
+          (no-fork t a.method.number a.method.first at.node c.args.method.at inside here refl (λ e. w.in_default.not-Fork (c.op_at.ensures ∙ ap op_named e)))
+    ] in at.invariant ∙ ap (first_broken p g) (lists-next (fork_of p a.method.number) at.node nodes inside) ∙ passed
 
 pub returns : goal.returns
 returns c = let a = c.args in
-    let at = c.loop-n in
-    ap found (sym (at.invariant.3 ∙ lists-end (program_in a.tables.now) (tables_in a.grades.now) (fork_of (program_in a.tables.now) a.m) at.n c.node_count-nodes.result (omega arith)))
+    let t = a.method.tables.now in
+    let at = c.loop-node in
+    let count = c.node_count-node-end.ensures.is ∙ nodes-length (cell t) a.method.number in
+    ap found (sym (at.invariant ∙ lists-end (program_in t) (tables_in a.grades.now) (fork_of (program_in t) a.method.number) at.node (node_count (cell t) a.method.number) (omega (arith, count))))

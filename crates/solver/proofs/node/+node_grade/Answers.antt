@@ -1,55 +1,49 @@
--- The proof of the cycle of calls {node_grade}. The measure is the node's number, which falls to each child.
+-- The proof of the cycle of calls {node_grade, child_grade}.
 -- Assumes nothing.
 use native.Mathlib.Omega.{arith}
 use Prim.Native.Nat.{ℕ, ◌+◌, ◌<◌}
-use mathlib.Core.Path.{◌≡◌, sym, ◌∙◌}
+use mathlib.Core.Path.{◌≡◌, sym, ap, ◌∙◌}
+use Rattle.std.specs.Prelude.{Option}
+use Rattle.std.specs.Option.{unwrap_or}
 use Rattle.grades.specs.HeldSets.{mask_names}
 use Rattle.frames.specs.Program.{Node, Program}
 use Rattle.meaning.specs.Meaning.{Assignment, first_name, below}
-use Rattle.solver.specs.Code.Engine.{nodes_from, LocksFit}
+use Rattle.solver.specs.Code.Engine.{nodes_from}
+use Rattle.solver.specs.Nodes.{meant, no_child}
 use Rattle.meaning.proofs.Laws.Meaning.{below-meaning, below_none}
-use Rattle.solver.specs.Laws.Engine.{assembled, mask-set}
+use Rattle.solver.specs.Laws.Engine.{assembled, mask-set, meant_named}
 use Rattle.solver.specs.Flat.{program_in, tables_in}
 use Rattle.solver.proofs.node.+node_grade.Goals as goal
-use Rattle.solver.proofs.node.+node_grade.Goals.{then-node-n, else-node-n, then-node-n-2, else-node-n-2, then-node-n-3, else-node-n-3}
 
-pub node_grade-a-requires : goal.node_grade-a-requires
-node_grade-a-requires t c = let given = c.requires in
-    (omega arith, (given.locks_fit, (given.tables_bound.0, omega arith, given.tables_bound.2, omega arith)))
-
-pub node_grade-b-requires : goal.node_grade-b-requires
-node_grade-b-requires t c = let given = c.requires in
-    (omega arith, (given.locks_fit, (given.tables_bound.0, omega arith, given.tables_bound.2, omega arith)))
-
-pub node_grade-c-requires : goal.node_grade-c-requires
-node_grade-c-requires t c = let given = c.requires in
-    (omega arith, (given.locks_fit, (given.tables_bound.0, omega arith, given.tables_bound.2, omega arith)))
-
-pub returns : goal.returns
-unfolding LocksFit
-returns t c = let a = c.args in
-    let parts = c.parts_of-node in
+pub child_grade-returns-in-Some : goal.child_grade-returns-in-Some
+child_grade-returns-in-Some t c = let a = c.args in
     let p : Program = program_in a.tables.now in
     let g : Assignment = tables_in a.grades.now in
+    c.node_grade.ensures ∙ sym (below-meaning p g (nodes_from a.tables.now a.first) a.n c.in-Some.child a.set c.if-child-n.true)
+    ∙ ap (λ (o : Option ℕ). below p g (nodes_from a.tables.now a.first) a.n (unwrap_or o no_child) a.set) (sym c.in-Some.is)
+
+pub child_grade-returns-in_default : goal.child_grade-returns-in_default
+child_grade-returns-in_default t c = let a = c.args in
+    let p : Program = program_in a.tables.now in
+    let g : Assignment = tables_in a.grades.now in
+    sym (below_none p g (nodes_from a.tables.now a.first) a.n c.in-Some.child a.set c.if-child-n.false)
+    ∙ ap (λ (o : Option ℕ). below p g (nodes_from a.tables.now a.first) a.n (unwrap_or o no_child) a.set) (sym c.in-Some.is)
+
+pub child_grade-returns-in_default-2 : goal.child_grade-returns-in_default-2
+child_grade-returns-in_default-2 t c = let a = c.args in
+    let p : Program = program_in a.tables.now in
+    let g : Assignment = tables_in a.grades.now in
+    sym (below_none p g (nodes_from a.tables.now a.first) a.n no_child a.set (omega (arith, c.requires.tables_bound.3)))
+    ∙ ap (λ (o : Option ℕ). below p g (nodes_from a.tables.now a.first) a.n (unwrap_or o no_child) a.set) (sym c.in_default.is)
+
+pub node_grade-returns : goal.node_grade-returns
+node_grade-returns t c = let a = c.args in
+    let r = c.parts_of-node.result in
     let nodes : (ℕ → Node) = nodes_from a.tables.now a.first in
-    let of = parts.ensures in
+    let of = c.parts_of-node.ensures in
     let given = c.requires in
     let lock : ((nodes a.n).op ≡ 6 → first_name (nodes a.n).names < mask_names) = given.locks_fit (a.first + a.n) (omega (arith, given.tables_bound.0)) given.tables_bound.1 in
-    let X : c.if-node-n.a ≡ below p g nodes a.n parts.result.x parts.result.under
-    = elim c.if-node-n.branch [
-      | then-node-n w ↦ w.a-is ∙ w.node_grade-a.ensures ∙ sym (below-meaning p g nodes a.n parts.result.x parts.result.under w.if-node-n.true)
-      | else-node-n w ↦ w.a-is ∙ sym (below_none p g nodes a.n parts.result.x parts.result.under w.if-node-n.false)
-    ] in
-    let Y : c.if-node-n-2.b ≡ below p g nodes a.n parts.result.y parts.result.under
-    = elim c.if-node-n-2.branch [
-      | then-node-n-2 w ↦ w.b-is ∙ w.node_grade-b.ensures ∙ sym (below-meaning p g nodes a.n parts.result.y parts.result.under w.if-node-n-2.true)
-      | else-node-n-2 w ↦ w.b-is ∙ sym (below_none p g nodes a.n parts.result.y parts.result.under w.if-node-n-2.false)
-    ] in
-    let Z : c.if-node-n-3.c ≡ below p g nodes a.n parts.result.z parts.result.under
-    = elim c.if-node-n-3.branch [
-      | then-node-n-3 w ↦ w.c-is ∙ w.node_grade-c.ensures ∙ sym (below-meaning p g nodes a.n parts.result.z parts.result.under w.if-node-n-3.true)
-      | else-node-n-3 w ↦ w.c-is ∙ sym (below_none p g nodes a.n parts.result.z parts.result.under w.if-node-n-3.false)
-    ] in
-    assembled p g nodes a.n a.set parts.result.op parts.result.under parts.result.x parts.result.y parts.result.z parts.result.own
-    c.if-node-n.a c.if-node-n-2.b c.if-node-n-3.c c.combined.result parts.result.newly (omega (arith, given.tables_bound.3))
-    of.op of.newly (of.under ∙ mask-set (nodes a.n).op (nodes a.n).names a.set lock) of.x of.y of.z of.own X Y Z c.combined.ensures
+    assembled (program_in a.tables.now) (tables_in a.grades.now) nodes a.n a.set r.under r.own
+    c.child_grade-x.result c.child_grade-y.result c.child_grade-z.result c.combined.result r.x r.y r.z (meant r.op) r.newly
+    (omega (arith, given.tables_bound.3)) (ap meant of.op ∙ meant_named (nodes a.n).op) of.newly (of.under ∙ mask-set (nodes a.n).op (nodes a.n).names a.set lock)
+    of.x of.y of.z of.own c.child_grade-x.ensures c.child_grade-y.ensures c.child_grade-z.ensures c.combined.ensures

@@ -17,6 +17,3 @@ returns-then-answer c = let a = c.args in
     let put : add a.inside a.j ≡ a.inside + 2 ^ a.j = add_free a.inside a.j (held-past a.j a.inside a.j given.1 (le_refl _)) in
     c.with_name.ensures ∙ ap (λ (b : Bool). cond b (add a.inside a.j) a.inside) (lt-ltb a.j 8 given.0) ∙ put
     ∙ (rw c.if-answer.true (omega arith))
-
-pub returns-else-answer : goal.returns-else-answer
-returns-else-answer c = rw c.if-answer.false (omega arith)

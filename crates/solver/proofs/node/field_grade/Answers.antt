@@ -20,7 +20,6 @@ returns-then-fields-u c = let a = c.args in
 
 pub returns : goal.returns
 returns c = let a = c.args in
-    access-read a.tables.now a.j c.used-u.result c.byte-2.result c.byte-3.result c.byte.result c.access.result
+    access-read a.tables.now a.j c.used-u.result c.width.result c.guard.result c.name.result c.access.result
     a.write c.holds-held.result a.set c.used-u.ensures.is (omega (arith, c.fields.ensures.is))
-    (c.byte-2.ensures ∙ c.width.ensures.is) (c.byte-3.ensures ∙ c.guard.ensures.is)
-    (c.byte.ensures ∙ c.name.ensures.is) c.holds-held.ensures c.access.ensures
+    c.width.ensures.is c.guard.ensures.is c.name.ensures.is c.holds-held.ensures c.access.ensures

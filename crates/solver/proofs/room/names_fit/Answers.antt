@@ -1,25 +1,19 @@
--- `solver::room::names_fit` meets its contract. The loop's invariant: the numbers passed pass the test.
+-- `solver::room::names_fit` meets its contract: each method is asked in turn.
 -- Assumes nothing.
-use mathlib.Core.Path.{◌≡◌, sym, ap, ◌∙◌}
-use native.Mathlib.Omega.{arith}
+use Rattle.std.proofs.Common.{rules, ◌≡◌, ℕ, refl, arith, Bool, true, false, leb, le-leb, ap}
+use native.Mathlib.Nat.{zero-add}
+use Rattle.std.proofs.lemmas.Bool.{lt-leb}
+use Rattle.std.proofs.lemmas.Iterator.{cases_from_all, YieldsList-from_range}
+use Rattle.frames.specs.Layout.{layout}
+use Rattle.frames.specs.Tables.{cell, method_of}
 use Rattle.solver.specs.Room.{names_fit}
-use Rattle.solver.specs.Laws.Room.{names-none, names_more, names-fail}
+use Rattle.solver.specs.Laws.Room.{every_asked}
 use Rattle.solver.proofs.room.names_fit.Goals as goal
 
-pub loop-m-init : goal.loop-m-init
-loop-m-init c = (omega arith, names-none c.args.tables.now)
-
-pub returns-then-k-gt-MOST_NAMES : goal.returns-then-k-gt-MOST_NAMES
-returns-then-k-gt-MOST_NAMES c = let a = c.args in
-    let at = c.loop-m in
-    sym (names-fail a.tables.now a.methods at.m (omega arith) (omega (arith, c.k.ensures.is)))
-
-pub loop-m-preserved : goal.loop-m-preserved
-loop-m-preserved c = let at = c.loop-m in
-    (omega arith, names_more c.args.tables.now at.m at.invariant.1 (omega (arith, c.k.ensures.is)))
-
 pub returns : goal.returns
+unfolding names_fit
 returns c = let a = c.args in
-    let at = c.loop-m in
-    let all : at.m ≡ a.methods = omega arith in
-    sym (ap (names_fit a.tables.now) (sym all) ∙ at.invariant.1)
+    let fits : (ℕ → Bool) = λ m. leb (method_of (cell a.tables.now) m).k layout.most_names in
+    let asked = cases_from_all _ _ _ (λ m. fits m ≡ true) (λ m. fits m ≡ false)
+    c.all.ensures.ran (YieldsList-from_range 0 a.methods a.methods refl (omega arith)) (λ x q k. search (rules, le-leb)) (λ x q k. search (rules, lt-leb)) in
+    every_asked 0 a.methods fits fits c.all.result (λ i. ap fits (zero-add i)) asked

@@ -33,29 +33,15 @@ returns-then-entries-set c = let a = c.args in
     let count = count-read t (room_fits t room) a.method c.k.result c.entries.result within c.k.ensures.is c.entries.ensures in
     root-no-entry t a.method a.set room (no-entry-set t (room_fits t room) a.method a.set within (omega (arith, count)))
 
-pub starts_of-starts-requires : goal.starts_of-starts-requires
-starts_of-starts-requires c = room_fits c.args.tables.now
+pub starts_of-requires : goal.starts_of-requires
+starts_of-requires c = room_fits c.args.tables.now
     (sym c.has_room.ensures ∙ c.if-not-has_room.false)
 
-pub lowest_of-lowest-requires : goal.lowest_of-lowest-requires
-lowest_of-lowest-requires c = record {
-  fits = room_fits c.args.tables.now
-      (sym c.has_room.ensures ∙ c.if-not-has_room.false);
-  starts = c.starts_of-starts.ensures;
-}
+pub invariant_of-placed-clause-fits : goal.invariant_of-placed-clause-fits
+invariant_of-placed-clause-fits c = room_fits c.args.tables.now (sym c.has_room.ensures ∙ c.if-not-has_room.false)
 
-pub bounds-starts-method : goal.bounds-starts-method
-bounds-starts-method c = let t = c.args.tables.now in
-    let room : has_room t ≡ true = sym c.has_room.ensures ∙ c.if-not-has_room.false in
-    omega (arith, (room_fits t room).methods, c.methods.ensures.is, c.starts_of-starts.ensures.size)
-
-pub root_grade-requires : goal.root_grade-requires
-root_grade-requires c = let a = c.args in
-    let t = a.tables.now in
-    let room : has_room t ≡ true = sym c.has_room.ensures ∙ c.if-not-has_room.false in
-    let within : a.method < methods_in (cell t) = omega (arith, c.methods.ensures.is) in
-    let starts = c.starts_of-starts.ensures in
-    record { fits = room_fits t room; at = record { method = within; frame = starts.first a.method within; small = starts.small a.method within } }
+pub invariant_of-method-clause-fits : goal.invariant_of-method-clause-fits
+invariant_of-method-clause-fits c = room_fits c.args.tables.now (sym c.has_room.ensures ∙ c.if-not-has_room.false)
 
 pub returns : goal.returns
 returns c = let a = c.args in
@@ -66,6 +52,6 @@ returns c = let a = c.args in
     let entries = c.entries in
     let k = c.k in
     let count = count-read t fits a.method k.result entries.result within k.ensures.is entries.ensures in
-    let lowest = c.lowest_of-lowest.ensures.1 in
+    let lowest = c.lowest_of-lowest.ensures.grades in
     root-entry t a.method a.set c.root_grade.result room (is-entry t fits a.method a.set within (omega (arith, count)))
     (c.root_grade.ensures ∙ ap (λ (g : Assignment). root_table (program_in t) g a.method a.set) (ap tables_in lowest ∙ lowest-read t fits))

@@ -1,9 +1,0 @@
--- `field_cell` meets its contract: past the tables every byte is 0.
--- Assumes nothing.
-use Rattle.frames.specs.Laws.Tables.{cell-past-frame}
-use mathlib.Core.Path.{sym}
-use native.Mathlib.Omega.{arith}
-use Rattle.frames.proofs.accessors.field_cell.Goals as goal
-
-pub returns-then-i-ge-MOST_FRAMES : goal.returns-then-i-ge-MOST_FRAMES
-returns-then-i-ge-MOST_FRAMES c = record { is = sym (cell-past-frame _ _ _ (omega arith)); small = omega arith }
