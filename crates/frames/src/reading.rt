@@ -134,6 +134,7 @@ fn store(line: &[u8], count: usize, tables: &mut [u8], j: usize)
 
 // The line is read as frame i: "in each line 3, 4, 5, 6", the lowest refusal that applies. It stands in the tables once it is of the kind and
 // length due.
+#[tactic(auto, using(crate::specs::Laws::Steps::four_tests), unfolding(crate::specs::Code::Steps::line_fault, crate::specs::Code::Steps::fault_by, lines::specs::Lines::well_formed))]
 fn take_line(
     line: &[u8],
     due: Due,

@@ -151,3 +151,6 @@ placed-short d l e = omega (arith, placed-long d l e, length_most d)
 pub kept-fits : (d : Due) (l : List ℕ) (p : Bool) (len r : ℕ) → len ≡ frame_length l → p ≡ placed d l → r ≡ cond p len 0 → (r ≤ frame_length l) × (r ≤ layout.stride)
 kept-fits d l true len r is e h = (omega arith, omega (arith, placed-short d l (sym e)))
 kept-fits d l false len r is e h = (omega arith, omega arith)
+
+-- what a line comes to, test by test
+pub ruleset four_tests = (taken-malformed, taken-misplaced, taken-out-of-range, taken-unlinked, taken-sound, placed-short)
