@@ -57,6 +57,18 @@ fn solved(tables: &[u8], answer: &mut [u8]) -> Result<Accepted, Refusal>
     })
 }
 
+// "line by line, in each line 3, 4, 5, 6, then 7". A call of its own: what the lengths alone refuse then asks for no room for tables, nor the time to
+// clear it.
+#[inline(never)]
+fn by_lines(text: &[u8], answer: &mut [u8]) -> Result<Accepted, Refusal>
+    requires { length answer.old ≡ answer_length }
+    ensures value { result ≡ verdict_of text.now (length answer.old) }
+    ensures answer_after { answer.new ≡ answer_of text.now answer.old }
+{
+    let tables = frames::read(text)?;
+    solved(&tables.bytes, answer)
+}
+
 // Grades a text. The answer has 1,024 bytes, entry h of method m at 16m + h and every other byte 0, if the text is accepted; a refusal
 // leaves it as it was. "Order: 1, 2, then line by line, in each line 3, 4, 5, 6, then 7."
 #[tactic(auto, using(crate::proofs::Laws::Grading::wrong_verdict, crate::proofs::Laws::Grading::wrong_bytes))]
@@ -67,6 +79,9 @@ pub fn grade(text: &[u8], answer: &mut [u8]) -> Result<Accepted, Refusal>
     if answer.len() != ANSWER_LENGTH {
         return Err(Refusal::WrongLength);
     }
-    let tables = frames::read(text)?;
-    solved(&tables.bytes, answer)
+    // `read` says so too, with that room.
+    if frames::layout::MOST_TEXT < text.len() {
+        return Err(Refusal::Text(frames::Refusal::Overlong));
+    }
+    by_lines(text, answer)
 }

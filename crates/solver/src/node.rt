@@ -1,5 +1,9 @@
 // The grade of a node under a held set (document 01, "What each node means"), by recursion on the node number, which falls to each
 // child. The children are worked out alike, an absent one as const, and put together once.
+//
+// The promises are of tables of any length. A text's tables have one length, and most of the time goes to reading them: so `node_grade` and
+// `callee_grade` ask for it first. Where it is known, the compiler tests no place that is read; tables of another length have functions of their
+// own (`other_..`), with the same code.
 ghost use Rattle.std.specs.Prelude.{◌≡◌, cond, ◌+◌, ◌*◌, ◌≤◌, ◌<◌, ◌^◌, min, length, unwrap_or};
 ghost use Rattle.grades.specs.HeldSets.{mask_names};
 ghost use Rattle.frames.specs.Layout.{layout};
@@ -11,7 +15,7 @@ ghost use Rattle.solver.specs.Nodes.{node_in, meant, own_grade, combined, mask_s
 ghost use Rattle.solver.specs.Flat.{program_in, tables_in};
 
 use frames::Op;
-use frames::layout::{GRADES, NAMES};
+use frames::layout::{GRADES, NAMES, TABLES_LENGTH};
 use grades::access::access;
 use grades::arithmetic::{assert_atomic, closure, compose, join, lock_taken};
 use grades::held::{NO_NAME, holds, with_name};
@@ -94,6 +98,7 @@ fn answered(inside: u8, j: u8, answer: bool) -> u8
 
 // The largest of the callee's entries at the sets that match the caller's names from j on and have, of the callee's names below j, those in
 // `inside`. A name is held exactly if the caller holds it; FF may be held or not, so both are tried. No list of the sets is made.
+#[cycle(largest_entry)]
 fn largest_entry<'a>(grades: &'a [u8], u: usize, set: u8, names: &'a [u8], j: u8, inside: u8) -> u8
     requires { (u < 256) × (j + length names.now ≤ mask_names) × (inside < 2 ^ j) }
     ensures { result ≡ largest (entries_from (tables_in grades.now u) j inside) (matching names.now set) }
@@ -102,13 +107,26 @@ fn largest_entry<'a>(grades: &'a [u8], u: usize, set: u8, names: &'a [u8], j: u8
         return entry_at(grades, u, usize::from(inside));
     };
     if *name == NO_NAME {
-        let without = largest_entry(grades, u, set, rest, j + 1, answered(inside, j, false));
-        let with = largest_entry(grades, u, set, rest, j + 1, answered(inside, j, true));
+        let without = entry_from(grades, u, set, rest, j + 1, answered(inside, j, false));
+        let with = entry_from(grades, u, set, rest, j + 1, answered(inside, j, true));
         // `join` would take what is over error for error.
         return without.max(with);
     }
     let next = answered(inside, j, holds(set, *name));
     largest_entry(grades, u, set, rest, j + 1, next)
+}
+
+// The same, without a call where no name is left: `largest_entry` would come to that at every other one.
+#[cycle(largest_entry)]
+#[inline(always)]
+fn entry_from<'a>(grades: &'a [u8], u: usize, set: u8, names: &'a [u8], j: u8, inside: u8) -> u8
+    requires { (u < 256) × (j + length names.now ≤ mask_names) × (inside < 2 ^ j) }
+    ensures { result ≡ largest (entries_from (tables_in grades.now u) j inside) (matching names.now set) }
+{
+    let [_, ..] = names else {
+        return entry_at(grades, u, usize::from(inside));
+    };
+    largest_entry(grades, u, set, names, j, inside)
 }
 
 // The callee's entry, of the caller's names for its locks. Up to the first lock without a name one set matches. `largest_entry` from name 0 on
@@ -140,7 +158,8 @@ fn names_of(tables: &[u8], j: usize) -> [u8; NAMES]
 }
 
 // The callee's entry.
-fn callee_grade<'a>(tables: &'a [u8], grades: &'a [u8], j: usize, set: u8) -> u8
+#[inline(always)]
+fn entry_of_callee<'a>(tables: &'a [u8], grades: &'a [u8], j: usize, set: u8) -> u8
     ensures { result ≡ callee_entry (method_at (program_in tables.now) (node_in tables.now j).U).k (tables_in grades.now (node_in tables.now j).U) (node_in tables.now j).names set }
 {
     let u = frames::used(tables, j);
@@ -148,7 +167,28 @@ fn callee_grade<'a>(tables: &'a [u8], grades: &'a [u8], j: usize, set: u8) -> u8
     entry_by_names(grades, u, set, &names_of(tables, j)[..k])
 }
 
+// The same, of tables of another length than a text's.
+#[cold]
+#[inline(never)]
+fn other_callee_grade<'a>(tables: &'a [u8], grades: &'a [u8], j: usize, set: u8) -> u8
+    ensures { result ≡ callee_entry (method_at (program_in tables.now) (node_in tables.now j).U).k (tables_in grades.now (node_in tables.now j).U) (node_in tables.now j).names set }
+{
+    entry_of_callee(tables, grades, j, set)
+}
+
+// The same. A call of its own: what it has on the stack is then gone before a node's children are graded.
+#[inline(never)]
+fn callee_grade<'a>(tables: &'a [u8], grades: &'a [u8], j: usize, set: u8) -> u8
+    ensures { result ≡ callee_entry (method_at (program_in tables.now) (node_in tables.now j).U).k (tables_in grades.now (node_in tables.now j).U) (node_in tables.now j).names set }
+{
+    match <&'a [u8; TABLES_LENGTH]>::try_from(tables) {
+        Ok(whole) => entry_of_callee(whole, grades, j, set),
+        Err(_) => other_callee_grade(tables, grades, j, set),
+    }
+}
+
 // A node's own part: an access, the callee's entry, a fork's 2; const where its op has none.
+#[inline(always)]
 fn own_grade<'a>(tables: &'a [u8], grades: &'a [u8], j: usize, op: Op, set: u8) -> u8
     ensures { result ≡ own_grade (program_in tables.now) (tables_in grades.now) (meant op) (node_in tables.now j) set }
 {
@@ -174,7 +214,9 @@ pub struct Parts {
     pub own: u8,
 }
 
-// Of the node in frame j under a set. A lock that a mask has no bit for, as no text has one, is not added.
+// Of the node in frame j under a set. A lock that a mask has no bit for, as no text has one, is not added. The node's own part comes first, while
+// little else is to be kept.
+#[inline(always)]
 pub fn parts_of<'a>(tables: &'a [u8], grades: &'a [u8], j: usize, set: u8) -> Parts
     ensures { PartsOf (program_in tables.now) (tables_in grades.now) (node_in tables.now j) set result }
 {
@@ -182,13 +224,13 @@ pub fn parts_of<'a>(tables: &'a [u8], grades: &'a [u8], j: usize, set: u8) -> Pa
     let name = frames::name(tables, j, 0) as u8;
     let listed = op.children();
     Parts {
+        own: own_grade(tables, grades, j, op, set),
         op,
         newly: !holds(set, name),
         under: set_under(op, name, set),
         x: (0 < listed).then(|| frames::child_x(tables, j)),
         y: (1 < listed).then(|| frames::child_y(tables, j)),
         z: (2 < listed).then(|| frames::child_z(tables, j)),
-        own: own_grade(tables, grades, j, op, set),
     }
 }
 
@@ -212,6 +254,41 @@ fn child_grade<'a>(
     }
 }
 
+// The grade of node n, of its parts.
+#[cycle(node_grade)]
+#[inline(always)]
+fn grade_of_parts<'a>(
+    tables: &'a [u8],
+    grades: &'a [u8],
+    first: usize,
+    n: usize,
+    set: u8,
+    node: Parts,
+) -> u8
+    requires locks_fit { LocksFit tables.now }
+    requires tables_bound { (first_node_frame tables.now ≤ first) × (first + n < last_frame tables.now) × (first < 2 ^ 32) × (n < 65536) }
+    requires parts { PartsOf (program_in tables.now) (tables_in grades.now) (node_in tables.now (first + n)) set node }
+    ensures { result ≡ meaning (program_in tables.now) (tables_in grades.now) (nodes_from tables.now first) n set }
+{
+    let x = child_grade(tables, grades, first, n, node.x, node.under);
+    let y = child_grade(tables, grades, first, n, node.y, node.under);
+    let z = child_grade(tables, grades, first, n, node.z, node.under);
+    combined(node.op, node.newly, x, y, z, node.own)
+}
+
+// The grade of node n, of tables of another length than a text's.
+#[cycle(node_grade)]
+#[cold]
+#[inline(never)]
+fn other_node_grade<'a>(tables: &'a [u8], grades: &'a [u8], first: usize, n: usize, set: u8) -> u8
+    requires locks_fit { LocksFit tables.now }
+    requires tables_bound { (first_node_frame tables.now ≤ first) × (first + n < last_frame tables.now) × (first < 2 ^ 32) × (n < 65536) }
+    ensures { result ≡ meaning (program_in tables.now) (tables_in grades.now) (nodes_from tables.now first) n set }
+{
+    let node = parts_of(tables, grades, first + n, set);
+    grade_of_parts(tables, grades, first, n, set, node)
+}
+
 // The grade of node n of the method whose first node stands in frame `first`.
 #[cycle(node_grade)]
 pub(crate) fn node_grade<'a>(
@@ -225,9 +302,11 @@ pub(crate) fn node_grade<'a>(
     requires tables_bound { (first_node_frame tables.now ≤ first) × (first + n < last_frame tables.now) × (first < 2 ^ 32) × (n < 65536) }
     ensures { result ≡ meaning (program_in tables.now) (tables_in grades.now) (nodes_from tables.now first) n set }
 {
-    let node = parts_of(tables, grades, first + n, set);
-    let x = child_grade(tables, grades, first, n, node.x, node.under);
-    let y = child_grade(tables, grades, first, n, node.y, node.under);
-    let z = child_grade(tables, grades, first, n, node.z, node.under);
-    combined(node.op, node.newly, x, y, z, node.own)
+    match <&'a [u8; TABLES_LENGTH]>::try_from(tables) {
+        Ok(whole) => {
+            let node = parts_of(whole, grades, first + n, set);
+            grade_of_parts(whole, grades, first, n, set, node)
+        }
+        Err(_) => other_node_grade(tables, grades, first, n, set),
+    }
 }

@@ -1,22 +1,11 @@
--- `grade` meets its contract: the answer's length decides, then what reading comes to, then what the solver finds.
+-- `grade` meets its contract: the answer's length decides, then the text's, then its lines.
 -- Assumes nothing.
-use mathlib.Core.Path.{sym, ◌∙◌}
-use Rattle.std.proofs.lemmas.Result.{err_from_is_err_and}
-use Rattle.checker.proofs.Laws.Grading.{right-verdict, right-bytes, read-room, read-verdict, read-bytes}
+use Rattle.std.proofs.Common.{sym}
+use Rattle.checker.proofs.Laws.Grading.{over-verdict, over-bytes}
 use Rattle.checker.proofs.grade.Goals as goal
 
-pub returns-in_err-tables-clause-value : goal.returns-in_err-tables-clause-value
-returns-in_err-tables-clause-value c = let p = err_from_is_err_and c.from_residual.result c.from_residual.ensures.1 in
-    rw (p.1, p.2) (sym (right-verdict _ _ _ c.if-answer-ne-ANSWER_LENGTH.false (sym c.read.ensures ∙ c.in_err-tables.was)))
+pub returns-then-text-gt-MOST_TEXT-clause-value : goal.returns-then-text-gt-MOST_TEXT-clause-value
+returns-then-text-gt-MOST_TEXT-clause-value c = sym (over-verdict _ _ c.if-answer-ne-ANSWER_LENGTH.false c.if-text-gt-MOST_TEXT.true)
 
-pub returns-in_err-tables-clause-answer_after : goal.returns-in_err-tables-clause-answer_after
-returns-in_err-tables-clause-answer_after c = sym (right-bytes _ _ _ c.if-answer-ne-ANSWER_LENGTH.false (sym c.read.ensures ∙ c.in_err-tables.was))
-
-pub solved-requires : goal.solved-requires
-solved-requires c = (c.if-answer-ne-ANSWER_LENGTH.false, read-room _ _ (sym c.read.ensures ∙ c.in_ok-tables.was))
-
-pub returns-clause-value : goal.returns-clause-value
-returns-clause-value c = c.solved.ensures.value ∙ read-verdict _ _ (sym c.read.ensures ∙ c.in_ok-tables.was) _ c.if-answer-ne-ANSWER_LENGTH.false
-
-pub returns-clause-answer_after : goal.returns-clause-answer_after
-returns-clause-answer_after c = c.solved.ensures.answer_after ∙ read-bytes _ _ (sym c.read.ensures ∙ c.in_ok-tables.was) _ c.if-answer-ne-ANSWER_LENGTH.false
+pub returns-then-text-gt-MOST_TEXT-clause-answer_after : goal.returns-then-text-gt-MOST_TEXT-clause-answer_after
+returns-then-text-gt-MOST_TEXT-clause-answer_after c = sym (over-bytes _ _ c.if-answer-ne-ANSWER_LENGTH.false c.if-text-gt-MOST_TEXT.true)

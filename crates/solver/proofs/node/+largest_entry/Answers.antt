@@ -1,4 +1,4 @@
--- The proof of the cycle of calls {largest_entry}. One name's answer is put before the sets of the others; FF's two answers both are, and the larger
+-- The proof of the cycle of calls {largest_entry, entry_from}. One name's answer is put before the sets of the others; FF's two answers both are, and the larger
 -- entry is taken.
 -- Assumes nothing.
 use Rattle.std.proofs.Common.{◌≡◌, refl, sym, ap, ap₂, ◌∙◌, arith, ℕ, suc, ◌+◌, ◌*◌, ◌^◌, ◌≤◌, ◌<◌, Bool, true, false, cond, List, [], ◌∷◌, length, get_or, take, drop, take_all, ◌-◌}
@@ -21,28 +21,34 @@ none : (xs : List ℕ) → length xs < 1 → xs ≡ []
 none [] h = refl
 none (x ∷ xs) h = absurd (omega arith)
 
-pub returns-in_default : goal.returns-in_default
-returns-in_default t c = let a = c.args in
+pub largest_entry-returns-in_default : goal.largest_entry-returns-in_default
+largest_entry-returns-in_default t c = let a = c.args in
     let empty : a.names.now ≡ [] = none a.names.now c.in_default.len_below in
     c.entry_at.ensures ∙ ap (tables_in a.grades.now a.u) c.from.ensures
     ∙ sym (ap (λ (l : List ℕ). largest (entries_from (tables_in a.grades.now a.u) a.j a.inside) (matching l a.set)) empty ∙ entries-end (tables_in a.grades.now a.u) a.set a.j a.inside)
 
-pub returns-then-name : goal.returns-then-name
-returns-then-name t c = let a = c.args in
+pub largest_entry-returns-then-name : goal.largest_entry-returns-then-name
+largest_entry-returns-then-name t c = let a = c.args in
     let table : (ℕ → ℕ) = tables_in a.grades.now a.u in
     let after : (r S : ℕ) (b : Bool) → S ≡ a.inside + cond b 1 0 * 2 ^ a.j
     → r ≡ largest (entries_from table (a.j + 1) S) (matching (rest a.names.now) a.set) → r ≡ entries_after table (rest a.names.now) a.set a.j a.inside b
     = λ r S b e f. f ∙ ap (λ (x : ℕ). largest (entries_from table (a.j + 1) x) (matching (rest a.names.now) a.set)) e in
     c.max.ensures
-    ∙ ap₂ max (after _ _ false c.answered.ensures c.largest_entry-without.ensures) (after _ _ true c.answered-then-name.ensures c.largest_entry-with.ensures)
+    ∙ ap₂ max (after _ _ false c.answered.ensures c.entry_from-without.ensures) (after _ _ true c.answered-then-name.ensures c.entry_from-with.ensures)
     ∙ sym (ap (λ (l : List ℕ). largest (entries_from table a.j a.inside) (matching l a.set)) (parted a.names.now c.in-len1-up.len_at_least)
     ∙ entries-unnamed table (rest a.names.now) a.set a.j a.inside _ c.if-name.true)
 
-pub returns : goal.returns
-returns t c = let a = c.args in
+pub largest_entry-returns : goal.largest_entry-returns
+largest_entry-returns t c = let a = c.args in
     let table : (ℕ → ℕ) = tables_in a.grades.now a.u in
     c.largest_entry.ensures
     ∙ ap (λ (x : ℕ). largest (entries_from table (a.j + 1) x) (matching (rest a.names.now) a.set)) c.answered-next.ensures
     ∙ ap (entries_after table (rest a.names.now) a.set a.j a.inside) c.holds.ensures
     ∙ sym (ap (λ (l : List ℕ). largest (entries_from table a.j a.inside) (matching l a.set)) (parted a.names.now c.in-len1-up.len_at_least)
     ∙ entries-named table (rest a.names.now) a.set a.j a.inside _ c.if-name.false)
+
+pub entry_from-returns-in_default : goal.entry_from-returns-in_default
+entry_from-returns-in_default t c = let a = c.args in
+    let empty : a.names.now ≡ [] = none a.names.now c.in_default.len_below in
+    c.entry_at.ensures ∙ ap (tables_in a.grades.now a.u) c.from.ensures
+    ∙ sym (ap (λ (l : List ℕ). largest (entries_from (tables_in a.grades.now a.u) a.j a.inside) (matching l a.set)) empty ∙ entries-end (tables_in a.grades.now a.u) a.set a.j a.inside)

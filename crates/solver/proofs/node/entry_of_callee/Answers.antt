@@ -1,9 +1,9 @@
--- `solver::node::callee_grade` meets its contract: the names that the callee takes decide its sets.
+-- `solver::node::entry_of_callee` meets its contract: the names that the callee takes decide its sets.
 -- Assumes nothing.
 use Rattle.std.proofs.Common.{refl}
 use Rattle.solver.specs.Flat.{tables_in}
 use Rattle.solver.specs.Laws.Views.{entry_read}
-use Rattle.solver.proofs.node.callee_grade.Goals as goal
+use Rattle.solver.proofs.node.entry_of_callee.Goals as goal
 
 pub returns : goal.returns
 returns c = let a = c.args in
