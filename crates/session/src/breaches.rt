@@ -27,7 +27,8 @@ fn declared_grade(text: &[u8], method: usize, set: usize) -> u8
     frames::entry(&tables.bytes, method, set) as u8
 }
 
-// The line of a breach. Its method has that held set, so there is a root's grade.
+// The line of a breach. Its method has that held set, so there is a root's grade. A call of its own, as `put_accepted` is.
+#[inline(never)]
 fn put_breach(text: &[u8], method: usize, set: usize, page: &mut Page)
     requires breach { Breach text.now method set }
     requires front { page.old ≡ [] }

@@ -29,7 +29,9 @@ fn put_method(tables: &[u8], answer: &[u8], m: usize, page: &mut Page)
     page.end_line();
 }
 
-// What is printed for an accepted text: the answer's line, then a line for each method. The text's tables are read again, for each method's k.
+// What is printed for an accepted text: the answer's line, then a line for each method. The text's tables are read again, for each method's k. A call of
+// its own: grading has its room for tables on the stack before, and not beside it.
+#[inline(never)]
 pub(crate) fn put_accepted(text: &[u8], answer: &[u8], accepted: Accepted, page: &mut Page)
     requires verdict { verdict_of text.now answer_length ≡ Ok accepted }
     requires answer_len { length answer.now ≡ answer_length }
