@@ -34,7 +34,7 @@ extern "C" {
 
 /* How many bytes of stack are enough for a call of any of the functions, whatever the text. A thread that calls must have as
  * many left: as a rule the main thread has, and a thread of glibc unless it is asked for less; a thread of musl has not unless
- * it is asked for more. It is measured and not proved: on x86-64 no call needs two thirds of it. */
+ * it is asked for more. It is measured and not proved: on x86-64 no call needs half of it. */
 #define IKHZORVAN_STACK 524288
 
 /* What ikhzorvan_grade returns, 0 to 7, and ikhzorvan_explain, all but 1. The names are those that Rattle's

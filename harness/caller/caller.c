@@ -344,7 +344,7 @@ static void try_stack(const struct text *text, int function) {
     printf("  %-24s %-8s %7lu of %d bytes of stack\n", text->name, functions[function],
            (unsigned long)(IKHZORVAN_STACK - unused), IKHZORVAN_STACK);
     /* Room to spare, for another compiler or processor. */
-    expect(unused >= IKHZORVAN_STACK / 4, "a quarter of the stack is left");
+    expect(unused > IKHZORVAN_STACK / 2, "no call needs half of the stack");
     munmap(pages, page + IKHZORVAN_STACK);
 }
 

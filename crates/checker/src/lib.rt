@@ -71,7 +71,7 @@ fn by_lines(text: &[u8], answer: &mut [u8]) -> Result<Accepted, Refusal>
 
 // Grades a text. The answer has 1,024 bytes, entry h of method m at 16m + h and every other byte 0, if the text is accepted; a refusal
 // leaves it as it was. "Order: 1, 2, then line by line, in each line 3, 4, 5, 6, then 7."
-#[tactic(auto, using(crate::proofs::Laws::Grading::wrong_verdict, crate::proofs::Laws::Grading::wrong_bytes))]
+#[tactic(auto, using(crate::proofs::Laws::Grading::by_lengths))]
 pub fn grade(text: &[u8], answer: &mut [u8]) -> Result<Accepted, Refusal>
     ensures value { result ≡ verdict_of text.now (length answer.old) }
     ensures answer_after { answer.new ≡ answer_of text.now answer.old }

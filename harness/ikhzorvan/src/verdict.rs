@@ -38,8 +38,8 @@ pub struct Accepted {
     pub rounds: u16,
 }
 
-/// Why a text is refused, or a question about it. Lines count from 1. The names are those that Rattle's `checker::Verdict` and
-/// `explainer::Reason`, the header for C and README have.
+/// Why a text is refused, or a question about it. Lines count from 1. The names are those that Rattle's `Refusal` in `frames`,
+/// `checker` and `explainer`, the header for C and README have.
 ///
 /// ```
 /// use ikhzorvan::{Broken, Kind, Refusal};

@@ -46,6 +46,9 @@ over-verdict text n h l = right-verdict text n (Err Overlong) h (long-exactly te
 pub over-bytes : (text old : List ℕ) → length old ≡ answer_length → layout.most_text < length text → answer_of text old ≡ old
 over-bytes text old h l = right-bytes text old (Err Overlong) h (long-exactly text l)
 
+-- what the lengths decide
+pub ruleset by_lengths = (wrong_verdict, wrong_bytes, over-verdict, over-bytes)
+
 -- ---- a text that reads
 
 module _ (text : List ℕ) (T : Tables) (e : read_text text ≡ Ok T) where
